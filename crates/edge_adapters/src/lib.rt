@@ -4,13 +4,13 @@
 #![tactic(auto)]
 
 mod file_leaf;
+mod folder_look;
 mod folder_repo;
 mod folder_tree;
 mod folders;
 mod front;
 mod given_up;
 mod leaf_place;
-mod folder_look;
 mod output_sink;
 mod paths;
 mod patient;
@@ -21,15 +21,15 @@ mod process_starter;
 mod shell;
 mod standard_files;
 mod whole_file;
-mod write_errors;
 mod whole_write;
+mod write_errors;
 
 pub use file_leaf::FileLeaf;
+pub use folder_look::holds_nothing;
 pub use folder_repo::{FolderBlob, FolderRepo};
 pub use folder_tree::FolderTree;
 pub use folders::{create_in_tree, empty_file, link_in_tree, remove_own};
 pub use leaf_place::LeafPlace;
-pub use folder_look::holds_nothing;
 pub use output_sink::OutputSink;
 pub use paths::path_in;
 pub use process_link::ProcessLink;
@@ -38,5 +38,5 @@ pub use process_spawner::{DriverPlace, ProcessSpawner};
 pub use process_starter::{ProcessStarter, ReturnedDriver};
 pub use standard_files::hold_standard;
 pub use whole_file::read_whole;
-pub use write_errors::{ErrorCount, WriteErrors};
 pub use whole_write::write_whole;
+pub use write_errors::{ErrorCount, WriteErrors};

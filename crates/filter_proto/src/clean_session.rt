@@ -11,10 +11,10 @@ ghost use Rattle.filter_proto.specs.Openings.{IsOpening, Announces};
 ghost use Rattle.filter_proto.specs.Complete.{IsComplete};
 ghost use Rattle.filter_proto.specs.Cleans.{TellsClean, IsCleaning, cleaned_end, cleaned_of, standing_after_clean};
 
-use crate::content::Content;
-use crate::laws::complete;
-use crate::handshake::{Begun, Opened};
 use crate::asked::Asked;
+use crate::content::Content;
+use crate::handshake::{Begun, Opened};
+use crate::laws::complete;
 use crate::session::{Session, Standing};
 use byte_path::Bytes;
 use edge_kit::Link;

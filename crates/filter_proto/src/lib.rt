@@ -4,18 +4,18 @@
 //! whatever pieces the link gives it.
 #![tactic(auto)]
 
-mod request;
+mod asked;
 mod clean_session;
 mod content;
+mod handshake;
 mod laws;
 mod list_request;
-mod handshake;
-mod asked;
+mod request;
 mod sent_parts;
 mod session;
 
-pub use clean_session::{CleanBegun, CleanSession, Cleaned};
-pub use laws::same_heard;
-pub use handshake::Begun;
 pub use asked::Asked;
+pub use clean_session::{CleanBegun, CleanSession, Cleaned};
+pub use handshake::Begun;
+pub use laws::same_heard;
 pub use session::{Session, Standing};

@@ -14,8 +14,8 @@ ghost use Rattle.filter_proto.specs.Complete.{IsComplete};
 ghost use Rattle.filter_proto.specs.Steps.{FlushIs, StepIs, StepBegins};
 ghost use Rattle.filter_proto.specs.declared.asked.Step.TheVariants as step;
 
-use crate::laws::complete;
 use crate::asked::{Asked, Reading, Step};
+use crate::laws::complete;
 use crate::sent_parts::SmudgeRequest;
 use crate::session::{Session, Standing};
 use edge_kit::{Leaf, Link, SendFault};

@@ -5,8 +5,8 @@ mod answer;
 mod cut;
 mod judge;
 mod laws;
-mod print;
 mod line_reader;
+mod print;
 mod words;
 
 pub use answer::Audit;

@@ -7,12 +7,12 @@
 
 mod fault;
 mod laws;
-mod stored_blob;
 mod spelling;
+mod stored_blob;
 mod taken_blob;
 
 pub use fault::ObjectFault;
 pub use laws::{content_has_one_spelling, spelling_gives_its_content};
-pub use stored_blob::read_blob;
 pub use spelling::{blob_name, object_path, spell_blob};
+pub use stored_blob::read_blob;
 pub use taken_blob::{Taken, sha1_of_four, take_blob};

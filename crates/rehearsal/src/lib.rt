@@ -3,9 +3,9 @@
 
 mod answers;
 mod files;
-mod rehearsed;
 mod order;
 mod paths;
+mod rehearsed;
 mod scripts;
 
 pub use rehearsed::{

@@ -2,14 +2,14 @@
 #![tactic(auto)]
 
 mod ascii_test;
+mod encoded_text;
 mod encoding;
 mod form;
 mod named;
 mod prepared;
 mod text;
-mod encoded_text;
 
+pub use encoded_text::{encode, encode_text};
 pub use encoding::{Encoding, UnknownEncoding, name_names_encoding, one_content};
 pub use named::encoding_of;
 pub use prepared::Prepared;
-pub use encoded_text::{encode, encode_text};
