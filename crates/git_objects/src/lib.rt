@@ -19,6 +19,7 @@ mod pack;
 mod placed_file;
 mod shared_object;
 mod shelf;
+mod windowed_file;
 
 pub use delta::apply_delta;
 pub use fault::ObjectsFault;

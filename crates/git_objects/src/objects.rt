@@ -1,5 +1,5 @@
 //! The objects of a repository.
-ghost use Rattle.std.specs.Prelude.{◌≡◌, None, IfOk, IfSome, ◌≤◌, length};
+ghost use Rattle.std.specs.Prelude.{◌≡◌, None, IfOk, IfSome, ◌≤◌, ◌<◌, length, vec_len};
 
 use crate::alternates::Folders;
 use crate::fault::ObjectsFault;
@@ -143,6 +143,16 @@ impl Objects {
         Ok(())
     }
 
+    /// Puts a pack in front of the others. The one that was there gives back its memory.
+    fn put_first(&mut self, place: usize)
+        requires { place < vec_len self.old.packs }
+    {
+        if place != 0 {
+            self.packs[0].let_go();
+            self.packs.swap(0, place);
+        }
+    }
+
     /// What the packs have of an object. Where one fails another may have it too.
     fn in_packs(&mut self, name: &[u8; 20], limit: u64) -> Result<Option<Vec<u8>>, ObjectsFault>
         ensures { IfOk result (λ taken. IfSome taken (λ stored. length stored.items ≤ limit)) }
@@ -151,7 +161,7 @@ impl Objects {
         for place in 0..self.packs.len() {
             match self.packs[place].object(&self.shelf, name, limit) {
                 Ok(Some(stored)) => {
-                    self.packs.swap(0, place);
+                    self.put_first(place);
                     return Ok(Some(stored));
                 }
                 Ok(None) => {}

@@ -10,6 +10,7 @@ use crate::object::Object;
 use crate::placed_file::PlacedFile;
 use crate::shared_object::SharedObject;
 use crate::shelf::{NumberedIndex, PackShelf};
+use crate::windowed_file::WindowedFile;
 use inflate::{InflateFault, inflate};
 use std::alloc::Global;
 use std::sync::Arc;
@@ -22,7 +23,7 @@ pub struct Pack {
     number: u64,
     pub name: String,
     index: Arc<PackIndex, Global>,
-    source: PlacedFile,
+    source: WindowedFile,
 }
 
 /// A stream of a pack: where it begins and how many bytes are in it.
@@ -83,34 +84,31 @@ impl Pack {
             number,
             name,
             index,
-            source,
+            source: WindowedFile::new(alloc, source),
         })
     }
 
     /// The entry that begins at an offset.
-    fn entry_at(&self, offset: u64) -> Result<PackEntry, ObjectsFault> {
-        match read_head(self.source.read(offset, MOST)?.as_slice()) {
+    fn entry_at(&mut self, offset: u64) -> Result<PackEntry, ObjectsFault> {
+        self.source.cover(offset, MOST)?;
+        match read_head(self.source.part(offset, MOST)) {
             Some(entry) => Ok(entry),
             None => Err(ObjectsFault::Broken),
         }
     }
 
     /// What is in a stream. One that is longer than the limit isn't read.
-    fn inflated(&self, stream: Stream, limit: u64) -> Result<Vec<u8>, ObjectsFault>
+    fn inflated(&mut self, stream: Stream, limit: u64) -> Result<Vec<u8>, ObjectsFault>
         ensures { IfOk result (λ content. length content.items ≤ limit) }
     {
         if stream.size > limit {
             return Err(ObjectsFault::TooLong);
         }
         let most = deflated(stream.size);
-        let stored = self.source.read(stream.place, most)?;
+        self.source.cover(stream.place, most)?;
+        let stored = self.source.part(stream.place, most);
         let mut content = Vec::new(self.alloc);
-        match inflate(
-            self.alloc,
-            stored.as_slice(),
-            &mut content,
-            stream.size as usize,
-        ) {
+        match inflate(self.alloc, stored, &mut content, stream.size as usize) {
             Ok(_) if content.len() as u64 == stream.size => Ok(content),
             Err(InflateFault::NoMemory) => Err(ObjectsFault::NoMemory),
             Err(InflateFault::CutShort) if stored.len() as u64 == most => {
@@ -130,7 +128,12 @@ impl Pack {
     }
 
     /// The chain of the object whose entry begins at an offset. A ring of deltas is longer than the pack has objects.
-    fn chain_from(&self, shelf: &PackShelf, start: u64, limit: u64) -> Result<Chain, ObjectsFault> {
+    fn chain_from(
+        &mut self,
+        shelf: &PackShelf,
+        start: u64,
+        limit: u64,
+    ) -> Result<Chain, ObjectsFault> {
         let mut deltas = Vec::new(self.alloc);
         let mut offset = start;
         for _ in 0..self.index.count {
@@ -172,7 +175,7 @@ impl Pack {
 
     /// Makes the object whose entry begins at an offset by its chain, and keeps what it was made of.
     fn made_by(
-        &self,
+        &mut self,
         shelf: &PackShelf,
         start: u64,
         chain: Chain,
@@ -202,7 +205,7 @@ impl Pack {
     }
 
     /// The content that a delta in a stream makes of its base.
-    fn applied(&self, base: &Object, delta: Stream, limit: u64) -> Result<Vec<u8>, ObjectsFault>
+    fn applied(&mut self, base: &Object, delta: Stream, limit: u64) -> Result<Vec<u8>, ObjectsFault>
         ensures { IfOk result (λ content. length content.items ≤ limit) }
     {
         let delta = match self.inflated(delta, limit) {
@@ -214,7 +217,7 @@ impl Pack {
 
     /// The stored form of the object with this name, if it is there and is within the limit.
     pub fn object(
-        &self,
+        &mut self,
         shelf: &PackShelf,
         name: &[u8; 20],
         limit: u64,
@@ -227,6 +230,11 @@ impl Pack {
         let chain = self.chain_from(shelf, start, limit)?;
         let object = self.made_by(shelf, start, chain, limit)?;
         Ok(Some(object.get().stored(self.alloc, limit)?))
+    }
+
+    /// Gives back the memory of what was read last.
+    pub fn let_go(&mut self) {
+        self.source.let_go();
     }
 
     /// Where this pack has the entry that begins at an offset.

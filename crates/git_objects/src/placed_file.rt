@@ -1,5 +1,5 @@
 //! Files that are read by position.
-ghost use Rattle.std.specs.Prelude.{IfOk, vec_len, ◌≤◌};
+ghost use Rattle.std.specs.Prelude.{IfOk, vec_len, length, ◌≡◌, ◌≤◌};
 
 use crate::fault::ObjectsFault;
 use crate::open_files::OpenFiles;
@@ -44,8 +44,16 @@ impl PlacedFile {
     {
         let count = most.min(self.len.saturating_sub(place));
         let mut bytes = Vec::from_elem(self.alloc, 0u8, count as usize)?;
-        let file = self.files.file_at(self.path.as_str())?;
-        file.read_exact_at(bytes.as_mut_slice(), place)?;
+        self.read_into(bytes.as_mut_slice(), place)?;
         Ok(bytes)
+    }
+
+    /// Fills bytes with those from a place on.
+    pub fn read_into(&self, bytes: &mut [u8], place: u64) -> Result<(), ObjectsFault>
+        ensures { length bytes.new ≡ length bytes.old }
+    {
+        let file = self.files.file_at(self.path.as_str())?;
+        file.read_exact_at(bytes, place)?;
+        Ok(())
     }
 }
