@@ -3,10 +3,10 @@ ghost use Rattle.std.specs.Prelude.{◌≡◌, ◌↔◌, ◌+◌, ◌++◌, ◌
 ghost use Rattle.edge_kit.specs.Told.{Untold, Takes};
 ghost use Rattle.git_edge.specs.declared.cat_file.Head.TheVariants.{Missing};
 
-use crate::git::{Git, fault_of};
 use byte_path::read_decimal;
 use edge_adapters::write_whole;
 use edge_kit::TakeFault;
+use git_answers::{Git, fault_of};
 use memchr::memchr;
 use std::alloc::Global;
 use std::io;

@@ -3,20 +3,18 @@ ghost use Rattle.std.specs.Prelude.{◌≡◌, ◌+◌, ◌≤◌, IfOk, IfSome,
 ghost use Rattle.edge_kit.specs.Faults.{AfterTake};
 ghost use Rattle.edge_kit.specs.Told.{Untold, Takes};
 
-use crate::attribute_files::base_attributes;
-use crate::fault::GitFault;
-use crate::finding::{FoundRepository, find, list};
-use crate::git::Git;
 use crate::git_blob::GitBlob;
 use crate::index_file::own_index;
 use crate::index_lock::IndexLock;
 use crate::lender::lender_of;
-use crate::listing::SettingsList;
-use crate::notes::{notes_of, place_of, word_of, worktree_of};
 use crate::object_pool::ObjectPool;
 use crate::wanted_tree::{IndexLack, WantedTree};
 use edge_adapters::{DriverPlace, read_whole};
 use edge_kit::{Repo, TakeFault};
+use git_answers::{
+    FoundRepository, Git, GitFault, SettingsList, base_attributes, find, list, notes_of, place_of,
+    word_of, worktree_of,
+};
 use git_tree::Keeps;
 use std::alloc::{AllocError, Global};
 use std::sync::Arc;
@@ -149,7 +147,7 @@ impl GitRepo {
     /// lacking or broken.
     pub fn tree_refusal(&self) -> Result<Option<String>, AllocError> {
         match &self.lack.bad {
-            Some(tree) => Ok(Some(tree.refusal(self.git.alloc)?)),
+            Some(line) => Ok(Some(line.clone()?)),
             None => Ok(None),
         }
     }
@@ -223,7 +221,13 @@ impl GitRepo {
 impl Repo for GitRepo {
     type Blob = GitBlob;
 
-    ghost told = { λ _. record { index = Untold; config = Untold; info = Untold; base = Untold; object = λ _. Untold } };
+    ghost told = { λ _. record {
+      index = Untold;
+      config = Untold;
+      info = Untold;
+      base = Untold;
+      object = λ _. Untold;
+    } };
 
     ghost seen = { λ r. record { faults = r.faults; out = r.out; returned = r.returned.items } };
 

@@ -1,10 +1,10 @@
 //! The bytes of an index, as the program can read them.
 ghost use Rattle.edge_kit.specs.Told.{Untold, Takes};
 
-use crate::git::{Git, fault_of};
 use crate::scratch::Scratch;
 use edge_adapters::read_whole;
 use edge_kit::TakeFault;
+use git_answers::{Git, fault_of};
 use memchr::memmem;
 use std::{fs, io};
 

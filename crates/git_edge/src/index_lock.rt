@@ -1,7 +1,6 @@
 //! The lock of an index, which is also the place of the new one: `index.lock` beside it.
-use crate::fault::GitFault;
-use crate::git::Git;
 use crate::keeper::Keeper;
+use git_answers::{Git, GitFault};
 use std::alloc::AllocError;
 use std::fs::{File, OpenOptions, canonicalize, remove_file, rename, symlink_metadata};
 use std::io;

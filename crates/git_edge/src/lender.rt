@@ -1,10 +1,7 @@
 //! What gives the objects of a repository.
-use crate::fault::GitFault;
-use crate::finding::FoundRepository;
-use crate::git::Git;
-use crate::listing::SettingsList;
 use crate::object_pool::ObjectPool;
 use crate::scratch::Scratch;
+use git_answers::{FoundRepository, Git, GitFault, SettingsList};
 use git_objects::USUAL_BASES;
 use std::fs::{create_dir, write};
 use std::io;

@@ -4,11 +4,7 @@
 //! git gives those that the files don't. Nothing is told of what they give, and each object counts its faults.
 #![tactic(auto)]
 
-mod attribute_files;
 mod cat_file;
-mod fault;
-mod finding;
-mod git;
 mod git_blob;
 mod git_repo;
 mod index_file;
@@ -16,17 +12,12 @@ mod index_lock;
 mod keeper;
 mod lender;
 mod lent;
-mod listing;
-mod notes;
-mod object_lack;
 mod object_pool;
 mod object_reader;
 mod scratch;
-mod tree_index;
-mod tree_objects;
 mod wanted_tree;
 
-pub use fault::GitFault;
+pub use git_answers::GitFault;
 pub use git_blob::GitBlob;
 pub use git_repo::{GitRepo, Guards};
 pub use index_lock::IndexLock;

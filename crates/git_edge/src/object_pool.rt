@@ -1,11 +1,12 @@
 //! Readers of objects, shared by the threads that read them.
 ghost use Rattle.edge_kit.specs.Told.{Untold, Takes};
 
-use crate::git::Git;
 use crate::lent::Lent;
 use crate::object_reader::{ObjectReader, Store, Wanted};
 use crate::scratch::Scratch;
 use edge_kit::TakeFault;
+use git_answers::Git;
+use git_commit::StoredObjects;
 use git_objects::PackShelf;
 use std::alloc::{AllocError, Global};
 use std::sync::{Arc, Mutex};
@@ -30,8 +31,8 @@ pub struct ObjectPool {
 const SEATS: usize = 64;
 
 impl ObjectPool {
-    /// A pool over this folder `objects` that has opened and started nothing. What deltas were made of is to cost no more
-    /// than so many bytes.
+    /// A pool over this folder `objects` that has opened and started nothing. What deltas were made of is to cost no
+    /// more than so many bytes.
     pub fn new(
         git: Git,
         scratch: Option<Scratch>,
@@ -109,5 +110,11 @@ impl ObjectPool {
                 *reader = ObjectReader::new();
             }
         }
+    }
+}
+
+impl StoredObjects for ObjectPool {
+    fn stored(&self, name: &[u8; 20], limit: u64) -> Result<Option<Vec<u8>>, TakeFault> {
+        self.take(name, None, limit)
     }
 }

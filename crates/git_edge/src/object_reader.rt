@@ -3,8 +3,8 @@ ghost use Rattle.std.specs.Prelude.{◌≢◌, ◌≤◌, IfOk, IfSome, None, le
 ghost use Rattle.edge_kit.specs.Told.{Untold, Takes};
 
 use crate::cat_file::CatFile;
-use crate::git::{Git, fault_of};
 use edge_kit::TakeFault;
+use git_answers::{Git, fault_of};
 use git_objects::{Objects, ObjectsFault, PackShelf};
 use std::alloc::Global;
 use std::sync::Arc;
@@ -110,7 +110,8 @@ impl ObjectReader {
         }
     }
 
-    /// The stored form of an object, from the files of this store, or from a child of git: of a partial clone, of a pack of another version, and of what can't be read here, git knows what becomes.
+    /// The stored form of an object, from the files of this store, or from a child of git: of a partial clone, of a
+    /// pack of another version, and of what can't be read here, git knows what becomes.
     pub fn take(
         &mut self,
         git: &Git,

@@ -7,8 +7,8 @@ use std::io::ErrorKind;
 use std::os::unix::fs::DirBuilderExt;
 use std::{io, process};
 
-/// What a shell does with a folder: it makes it, says so by a byte, waits for the end of its input and removes the folder.
-/// That end comes however this program ends. Signals that a terminal sends to both don't end the shell.
+/// What a shell does with a folder: it makes it, says so by a byte, waits for the end of its input and removes the
+/// folder. That end comes however this program ends. Signals that a terminal sends to both don't end the shell.
 const KEEPING: &str =
     "trap '' HUP INT QUIT PIPE TERM; mkdir -m 700 -- \"$1\" || exit 1; echo; read -r _; \
                        rm -rf -- \"$1\" || { sleep 1; rm -rf -- \"$1\"; }";

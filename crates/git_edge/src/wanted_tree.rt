@@ -1,14 +1,11 @@
 //! The tree that is wanted in place of the index.
 ghost use Rattle.edge_kit.specs.Told.{Untold, Takes};
 
-use crate::fault::GitFault;
-use crate::finding::{FoundRepository, object_of, tree_by_git};
-use crate::git::Git;
 use crate::index_file::index_by_git;
 use crate::object_pool::ObjectPool;
-use crate::tree_index::{BadTree, TreeIndex, index_of};
-use crate::tree_objects::root_tree;
 use edge_kit::TakeFault;
+use git_answers::{FoundRepository, Git, GitFault, object_of, tree_by_git};
+use git_commit::{TreeIndex, index_of, root_tree};
 use std::alloc::AllocError;
 use std::io;
 
@@ -25,8 +22,8 @@ pub struct WantedTree {
 pub struct IndexLack {
     /// Why git had no folder for it.
     pub unmade: Option<io::Error>,
-    /// Which tree is lacking or broken.
-    pub bad: Option<BadTree>,
+    /// The line of a report that refuses it, or one below it, which is lacking or broken.
+    pub bad: Option<String>,
 }
 
 fn name_in(digits: &str) -> Option<[u8; 20]> {
@@ -80,8 +77,8 @@ impl WantedTree {
         match index_of(pool, git.alloc, &name)? {
             TreeIndex::Made(index) => Ok(Some(index)),
             TreeIndex::ForGit => Ok(None),
-            TreeIndex::Bad(bad) => {
-                lack.bad = Some(bad);
+            TreeIndex::Bad(line) => {
+                lack.bad = Some(line);
                 Ok(None)
             }
         }

@@ -1,6 +1,6 @@
 //! The index of a tree, which is read here.
 use crate::object_lack::ObjectLack;
-use crate::object_pool::ObjectPool;
+use crate::stored_objects::StoredObjects;
 use crate::tree_objects::TreeObjects;
 use byte_path::{Bytes, PathFault, quote_path};
 use edge_kit::TakeFault;
@@ -17,11 +17,11 @@ const BOUNDS: WalkBounds = WalkBounds {
     bytes: 67_108_864,
 };
 
-/// A tree that is lacking or broken.
-#[derive(Drop)]
-pub struct BadTree {
+/// The tree at which a walk stopped, and why it did.
+#[derive(Clone, Copy)]
+struct StoppedTree<'a> {
     name: [u8; 20],
-    fault: WalkFault,
+    fault: &'a WalkFault,
     lack: ObjectLack,
 }
 
@@ -51,10 +51,10 @@ fn folder_text(alloc: Global, folder: &[u8]) -> Result<String, AllocError> {
     }
 }
 
-impl BadTree {
+impl StoppedTree<'_> {
     /// The path of its folder, with a slash after it. That of the root tree is empty.
     fn folder(&self) -> &[u8] {
-        match &self.fault {
+        match self.fault {
             WalkFault::Absent(folder) | WalkFault::Failed(folder) | WalkFault::Tree(folder, _) => {
                 folder.as_slice()
             }
@@ -64,7 +64,7 @@ impl BadTree {
 
     /// What is wrong with it: one of its entries by its number, or the tree as a whole.
     fn cause(&self, alloc: Global) -> Result<String, AllocError> {
-        match &self.fault {
+        match self.fault {
             WalkFault::Tree(_, fault) => {
                 let (number, word) = entry_cause(*fault);
                 format!(in alloc; "entry {number} {word}")
@@ -75,7 +75,7 @@ impl BadTree {
     }
 
     /// The line of a report that refuses it: its name, its folder and the cause.
-    pub fn refusal(&self, alloc: Global) -> Result<String, AllocError> {
+    fn refusal(&self, alloc: Global) -> Result<String, AllocError> {
         let name = hex::encode(alloc, self.name.as_slice())?;
         let folder = folder_text(alloc, self.folder())?;
         let cause = self.cause(alloc)?;
@@ -84,8 +84,8 @@ impl BadTree {
 }
 
 /// The content of the root tree.
-fn root_content(
-    trees: &mut TreeObjects<'_>,
+fn root_content<S: StoredObjects>(
+    trees: &mut TreeObjects<'_, S>,
     alloc: Global,
     root: &[u8; 20],
 ) -> Result<Vec<u8>, WalkFault> {
@@ -98,7 +98,11 @@ fn root_content(
 }
 
 /// The index of what this tree reaches.
-fn walk(trees: &mut TreeObjects<'_>, alloc: Global, root: &[u8; 20]) -> Result<Vec<u8>, WalkFault> {
+fn walk<S: StoredObjects>(
+    trees: &mut TreeObjects<'_, S>,
+    alloc: Global,
+    root: &[u8; 20],
+) -> Result<Vec<u8>, WalkFault> {
     let content = root_content(trees, alloc, root)?;
     let leaves = read_leaves(trees, alloc, BOUNDS, content.as_slice())?;
     leaves_can_stand();
@@ -127,24 +131,35 @@ pub enum TreeIndex {
     Made(Vec<u8>),
     /// Git may make it.
     ForGit,
-    Bad(BadTree),
+    /// It, or one below it, is lacking or broken: the line of a report that refuses that.
+    Bad(String),
+}
+
+/// What comes of a tree whose walk stopped.
+fn without_index(alloc: Global, stopped: StoppedTree<'_>) -> Result<TreeIndex, AllocError> {
+    match stopped.fault {
+        WalkFault::NoMemory => Err(AllocError),
+        fault if is_for_git(fault) => Ok(TreeIndex::ForGit),
+        _ => Ok(TreeIndex::Bad(stopped.refusal(alloc)?)),
+    }
 }
 
 /// The index of the tree with this name.
-pub fn index_of(
-    pool: &ObjectPool,
+pub fn index_of<S: StoredObjects>(
+    objects: &S,
     alloc: Global,
     root: &[u8; 20],
 ) -> Result<TreeIndex, AllocError> {
-    let mut trees = TreeObjects::new(pool, alloc);
+    let mut trees = TreeObjects::new(objects, alloc);
     match walk(&mut trees, alloc, root) {
         Ok(index) => Ok(TreeIndex::Made(index)),
-        Err(WalkFault::NoMemory) => Err(AllocError),
-        Err(fault) if is_for_git(&fault) => Ok(TreeIndex::ForGit),
-        Err(fault) => Ok(TreeIndex::Bad(BadTree {
-            name: trees.last,
-            fault,
-            lack: trees.lack,
-        })),
+        Err(fault) => {
+            let stopped = StoppedTree {
+                name: trees.last,
+                fault: &fault,
+                lack: trees.lack,
+            };
+            without_index(alloc, stopped)
+        }
     }
 }

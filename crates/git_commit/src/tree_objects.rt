@@ -3,7 +3,7 @@ ghost use Rattle.std.specs.Prelude.{◌≤◌, IfOk, length};
 ghost use Rattle.edge_kit.specs.Told.{Untold};
 
 use crate::object_lack::ObjectLack;
-use crate::object_pool::ObjectPool;
+use crate::stored_objects::StoredObjects;
 use byte_path::read_decimal;
 use edge_kit::TakeFault;
 use git_trees::TreeSource;
@@ -45,8 +45,12 @@ fn checked<'a>(stored: &'a [u8], kind: &[u8], name: &[u8; 20]) -> Result<&'a [u8
 }
 
 /// The stored form of an object.
-fn stored_of(pool: &ObjectPool, name: &[u8; 20], limit: u64) -> Result<Vec<u8>, ObjectLack> {
-    match pool.take(name, None, limit.saturating_add(HEAD)) {
+fn stored_of<S: StoredObjects>(
+    objects: &S,
+    name: &[u8; 20],
+    limit: u64,
+) -> Result<Vec<u8>, ObjectLack> {
+    match objects.stored(name, limit.saturating_add(HEAD)) {
         Ok(Some(stored)) => Ok(stored),
         Ok(None) => Err(ObjectLack::Absent),
         Err(TakeFault::TooLong) => Err(ObjectLack::TooLarge),
@@ -66,18 +70,18 @@ fn tree_in(commit: &[u8]) -> Option<[u8; 20]> {
 }
 
 /// The name of the tree of a commit, or of the tree itself. `None` if it is neither, or isn't given.
-pub fn root_tree(pool: &ObjectPool, name: &[u8; 20]) -> Option<[u8; 20]> {
-    let stored = stored_of(pool, name, MOST).ok()?;
+pub fn root_tree<S: StoredObjects>(objects: &S, name: &[u8; 20]) -> Option<[u8; 20]> {
+    let stored = stored_of(objects, name, MOST).ok()?;
     if stored.starts_with(b"tree ") {
         return Some(*name);
     }
     tree_in(checked(stored.as_slice(), b"commit", name).ok()?)
 }
 
-/// The trees that a pool gives, each checked against its name.
+/// The trees among stored objects, each checked against its name.
 #[derive(Drop)]
-pub struct TreeObjects<'a> {
-    pool: &'a ObjectPool,
+pub struct TreeObjects<'a, S> {
+    objects: &'a S,
     alloc: Global,
     /// The name of the tree that was asked for last.
     pub last: [u8; 20],
@@ -87,11 +91,11 @@ pub struct TreeObjects<'a> {
     faults: u64,
 }
 
-impl<'a> TreeObjects<'a> {
-    /// The trees of this pool, of which none was asked for.
-    pub fn new(pool: &'a ObjectPool, alloc: Global) -> TreeObjects<'a> {
+impl<'a, S> TreeObjects<'a, S> {
+    /// The trees among these objects, of which none was asked for.
+    pub fn new(objects: &'a S, alloc: Global) -> TreeObjects<'a, S> {
         TreeObjects {
-            pool,
+            objects,
             alloc,
             last: [0; 20],
             lack: ObjectLack::Absent,
@@ -102,15 +106,15 @@ impl<'a> TreeObjects<'a> {
 }
 
 /// The content of a tree.
-fn tree_content(
-    pool: &ObjectPool,
+fn tree_content<S: StoredObjects>(
+    objects: &S,
     alloc: Global,
     name: &[u8; 20],
     limit: u64,
 ) -> Result<Vec<u8>, ObjectLack>
     ensures { IfOk result (λ v. length v.items ≤ limit) }
 {
-    let stored = stored_of(pool, name, limit)?;
+    let stored = stored_of(objects, name, limit)?;
     let content = checked(stored.as_slice(), b"tree", name)?;
     if content.len() as u64 > limit {
         return Err(ObjectLack::TooLarge);
@@ -118,7 +122,7 @@ fn tree_content(
     Ok(Vec::from_slice(alloc, content)?)
 }
 
-impl TreeSource for TreeObjects<'_> {
+impl<S: StoredObjects> TreeSource for TreeObjects<'_, S> {
     ghost told = { λ _. λ _. Untold };
 
     ghost faults = { λ s. s.faults };
@@ -129,7 +133,7 @@ impl TreeSource for TreeObjects<'_> {
         let content = if self.taken > MOST_TREES {
             Err(ObjectLack::TooMany)
         } else {
-            tree_content(self.pool, self.alloc, name, limit)
+            tree_content(self.objects, self.alloc, name, limit)
         };
         match content {
             Ok(content) => Ok(Some(content)),
