@@ -25,7 +25,7 @@ _siuwbren() {
       *)
         case $command in
           checkout) words='--git-dir --commit --workers --report -z --journal --progress --no-progress -q --quiet -u --update-index --help' ;;
-          checkin) words='--git-dir --allow-empty --help' ;;
+          checkin) words='--git-dir --allow-empty -u --update-index --help' ;;
           plan) words='--git-dir --report -z --help' ;;
           rehearse | audit) words='--help' ;;
         esac

@@ -5,7 +5,7 @@ use Rattle.checkin_edge.specs.declared.looking.FileRead.TheVariants as read
 
 -- no more bytes than the limit
 abbrev pub IsWithin : ℕ → FileRead → Type 0
-IsWithin limit (read.Whole bytes) = length bytes.items ≤ limit
+IsWithin limit (read.Whole bytes stat) = length bytes.items ≤ limit
 IsWithin limit read.TooLong = Unit {0}
 IsWithin limit read.Absent = Unit {0}
 IsWithin limit read.OtherKind = Unit {0}

@@ -4,11 +4,13 @@ ghost use Rattle.edge_kit.specs.Told.{Untold};
 ghost use Rattle.edge_kit.specs.Faults.{Rose};
 ghost use Rattle.checkin_paths.specs.Outside.{no_files_failed};
 
+use crate::looked_files::LookedFiles;
 use crate::looking::{FileRead, WantedKind, read_below};
 use byte_path::Bytes;
 use checkin_paths::Files;
 use edge_adapters::{LeafPlace, WriteErrors};
 use edge_kit::TakeFault;
+use git_index::Stat;
 use std::alloc::Global;
 use std::io;
 use std::io::ErrorKind;
@@ -50,6 +52,8 @@ pub struct FolderFiles {
     errors: WriteErrors,
     // the links of the index, if each file has to be of the kind that the index has
     links: Option<IndexLinks>,
+    // the files that were read
+    looked: LookedFiles,
     // whether it failed the last time by the kind of a file, and the paths at which it did
     by_kind: bool,
     of_other_kind: Vec<Bytes>,
@@ -71,6 +75,7 @@ impl FolderFiles {
             failed: Vec::new(alloc),
             errors: WriteErrors::new(alloc),
             links: None,
+            looked: LookedFiles::new(alloc, false),
             by_kind: false,
             of_other_kind: Vec::new(alloc),
         }
@@ -84,6 +89,21 @@ impl FolderFiles {
         let mut files = self;
         files.links = Some(links);
         files
+    }
+
+    /// This folder, which keeps what an index is to tell of each file that it reads.
+    pub fn keeping_stats(self) -> FolderFiles
+        ensures folder { result.folder ≡ self.folder }
+        ensures seen { ⟦<FolderFiles as Files>⟧.seen result ≡ ⟦<FolderFiles as Files>⟧.seen self }
+    {
+        let mut files = self;
+        files.looked = LookedFiles::new(files.alloc, true);
+        files
+    }
+
+    /// What an index is to tell of each file that was read, in turn, if it keeps that.
+    pub fn stats(&self) -> &[(Bytes, Stat)] {
+        self.looked.stats()
     }
 
     /// What has to stand at the path.
@@ -151,9 +171,13 @@ impl Files for FolderFiles {
         self.errors.reserve()?;
         self.failed.reserve(1)?;
         self.of_other_kind.reserve(1)?;
+        self.looked.reserve()?;
         let wanted = self.wanted_at(path.as_bytes());
         match read_below(self.rt, self.alloc, &place, wanted, limit) {
-            Ok(FileRead::Whole(bytes)) => Ok(Some(bytes)),
+            Ok(FileRead::Whole(bytes, stat)) => {
+                self.looked.add(place, stat);
+                Ok(Some(bytes))
+            }
             Ok(FileRead::Absent) => Ok(None),
             Ok(FileRead::TooLong) => Err(TakeFault::TooLong),
             Ok(FileRead::OtherKind) => {

@@ -37,6 +37,10 @@ pub struct FolderKeep {
     error: Option<io::Error>,
     // the entries of an index that get their marks back
     held: Vec<HeldEntry>,
+    // whether the index stays in memory
+    holds_index: bool,
+    // and that index
+    made: Option<Vec<u8>>,
 }
 
 /// The folder of the object with this name, in a folder of objects: by the first two digits of the name.
@@ -74,6 +78,8 @@ impl FolderKeep {
             faults: 0,
             error: None,
             held: Vec::new(rt.alloc()),
+            holds_index: false,
+            made: None,
         }
     }
 
@@ -88,6 +94,26 @@ impl FolderKeep {
         let mut keep = self;
         keep.held = held;
         keep
+    }
+
+    /// This keeper, which keeps the index in memory and writes no file of it.
+    pub fn holding_index(self) -> FolderKeep
+        ensures objects { result.objects ≡ self.objects }
+        ensures index { result.index ≡ self.index }
+        ensures form { result.form ≡ self.form }
+        ensures seen { ⟦<FolderKeep as Keep>⟧.seen result ≡ ⟦<FolderKeep as Keep>⟧.seen self }
+    {
+        let mut keep = self;
+        keep.holds_index = true;
+        keep
+    }
+
+    /// The index that it keeps in memory.
+    pub fn made_index(&self) -> Option<&[u8]> {
+        match &self.made {
+            Some(index) => Some(index.as_slice()),
+            None => None,
+        }
     }
 
     /// Its first fault.
@@ -123,6 +149,17 @@ impl FolderKeep {
         replace(self.rt, self.alloc, path, &marked)
     }
 
+    /// Keeps the index in memory, or writes its file.
+    fn keep_index(&mut self, bytes: &[u8]) -> io::Result<()>
+        ensures kept { self.new ≡ record self.old { made = self.new.made } }
+    {
+        if !self.holds_index {
+            return self.write_index(bytes);
+        }
+        self.made = Some(with_held(self.alloc, bytes, self.held.as_slice())?);
+        Ok(())
+    }
+
     /// Counts a fault if it didn't write.
     fn counted(&mut self, written: io::Result<()>) -> Result<(), SendFault>
         ensures { AfterSend self.old.faults self.new.faults result }
@@ -150,7 +187,7 @@ impl Keep for FolderKeep {
     }
 
     fn index(&mut self, bytes: &[u8]) -> Result<(), SendFault> {
-        let written = self.write_index(bytes);
+        let written = self.keep_index(bytes);
         self.counted(written)
     }
 }

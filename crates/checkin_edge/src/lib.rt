@@ -5,6 +5,7 @@
 mod folder_files;
 mod folder_keep;
 mod held_entries;
+mod looked_files;
 mod looking;
 mod new_file;
 mod raw_index;

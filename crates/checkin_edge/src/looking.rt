@@ -9,6 +9,8 @@ ghost use Rattle.std.specs.Prelude.{◌≤◌, IfOk, length};
 ghost use Rattle.checkin_edge.specs.Reads.{IsWithin};
 
 use edge_adapters::LeafPlace;
+use file_stat::stat_of;
+use git_index::Stat;
 use std::alloc::Global;
 use std::fs::{File, Metadata, read_link, symlink_metadata};
 use std::io;
@@ -18,8 +20,9 @@ use std::os::unix::fs::MetadataExt;
 /// What was read at a path.
 #[derive(Drop)]
 pub enum FileRead {
-    /// All bytes of a file, or the text of a link.
-    Whole(Vec<u8>),
+    /// All bytes of a file, or the text of a link, and what an index is to tell of it: what the system told of it before
+    /// it was read.
+    Whole(Vec<u8>, Stat),
     /// More bytes than the limit.
     TooLong,
     /// There is no file.
@@ -57,14 +60,14 @@ fn need_folders(rt: HostRuntime, path: &str, top: usize) -> io::Result<()> {
 }
 
 /// The text of a link within the limit.
-fn link_text(rt: HostRuntime, path: &str, limit: u64) -> io::Result<FileRead>
+fn link_text(rt: HostRuntime, path: &str, found: &Metadata, limit: u64) -> io::Result<FileRead>
     ensures { IfOk result (IsWithin limit) }
 {
     let text = read_link(&rt, path)?.into_os_string().into_bytes();
     if text.len() as u64 > limit {
         return Ok(FileRead::TooLong);
     }
-    Ok(FileRead::Whole(text))
+    Ok(FileRead::Whole(text, stat_of(found)))
 }
 
 /// Opens the regular file that was found at a path.
@@ -78,7 +81,7 @@ fn open_found(rt: HostRuntime, path: &str, found: &Metadata) -> io::Result<File>
 }
 
 /// The bytes of an open file within the limit. Its length says how much room they need.
-fn file_bytes(alloc: Global, file: File, limit: u64) -> io::Result<FileRead>
+fn file_bytes(alloc: Global, file: File, found: &Metadata, limit: u64) -> io::Result<FileRead>
     ensures { IfOk result (IsWithin limit) }
 {
     let len = file.metadata()?.len();
@@ -92,7 +95,7 @@ fn file_bytes(alloc: Global, file: File, limit: u64) -> io::Result<FileRead>
     if bytes.len() as u64 > limit {
         return Ok(FileRead::TooLong);
     }
-    Ok(FileRead::Whole(bytes))
+    Ok(FileRead::Whole(bytes, stat_of(found)))
 }
 
 /// Whether what was found is a link where a file is wanted, or a file where a link is.
@@ -122,14 +125,14 @@ fn read_there(
         return Ok(FileRead::OtherKind);
     }
     if found.is_symlink() {
-        return link_text(rt, path, limit);
+        return link_text(rt, path, &found, limit);
     }
     if !found.is_file() {
         return Err(Error::other("no regular file"));
     }
     let file = open_found(rt, path, &found)?;
     need_folders(rt, path, top)?;
-    file_bytes(alloc, file, limit)
+    file_bytes(alloc, file, &found, limit)
 }
 
 /// The bytes of the regular file at a place of the worktree. There is none where a part of its path below the folder of

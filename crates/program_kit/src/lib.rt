@@ -3,6 +3,7 @@
 #![tactic(auto)]
 
 mod checking_in;
+mod failure_sink;
 mod journal_file;
 mod messages;
 mod notes;

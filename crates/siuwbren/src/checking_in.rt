@@ -1,9 +1,11 @@
 //! A check-in into a git folder.
 use crate::assumed::hold_assumed;
+use crate::checkin_index::{CheckedIn, index_after, put_made};
 use crate::ends::{end_run, refuse_repository, say, show_notes};
 use crate::engine_words::checkin_words;
 use crate::kept_notes::show_kept;
 use crate::own_index::{links_of, refuse_guarded};
+use crate::update_index::index_lock;
 use crate::worktree::{refused_tree, tree_of};
 use checkin_edge::{FolderFiles, FolderKeep, HeldEntry, ObjectForm};
 use checkout_engine::ExitStatus;
@@ -21,23 +23,40 @@ fn new_index(rt: HostRuntime, repo: &GitRepo) -> Result<String, AllocError> {
     format!(in rt.alloc(); "{}-checkin", repo.index_file())
 }
 
-/// What keeps objects among those of a repository, and an index beside its own with these entries as they were. It
-/// touches nothing.
+/// What keeps objects among those of a repository, and an index with these entries as they were: beside its own, or in
+/// memory if that is to be updated. It touches nothing.
 fn keep_of(
     rt: HostRuntime,
     repo: &GitRepo,
     held: Vec<HeldEntry>,
+    is_update: bool,
 ) -> Result<FolderKeep, AllocError> {
     let objects = String::from_str(rt.alloc(), repo.objects())?;
     let index = new_index(rt, repo)?;
-    Ok(FolderKeep::new(rt, objects, index, ObjectForm::Zlib).holding(held))
+    let keep = FolderKeep::new(rt, objects, index, ObjectForm::Zlib).holding(held);
+    Ok(if is_update {
+        keep.holding_index()
+    } else {
+        keep
+    })
 }
 
-/// The files of a folder, with the links that the index has.
-fn files_of(rt: HostRuntime, repo: &mut GitRepo, tree: &str) -> Result<FolderFiles, AllocError> {
+/// The files of a folder, with the links that the index has. They keep what an index is to tell of them, if it is to be
+/// updated.
+fn files_of(
+    rt: HostRuntime,
+    repo: &mut GitRepo,
+    tree: &str,
+    is_update: bool,
+) -> Result<FolderFiles, AllocError> {
     let links = links_of(rt, repo)?;
     let folder = String::from_str(rt.alloc(), tree)?;
-    Ok(FolderFiles::new(rt, folder).of_links(links))
+    let files = FolderFiles::new(rt, folder).of_links(links);
+    Ok(if is_update {
+        files.keeping_stats()
+    } else {
+        files
+    })
 }
 
 /// What starts the drivers of a repository.
@@ -51,15 +70,20 @@ fn check_in_with<H: Threads + Wait + Sync>(
     threads: &H,
     tree: &str,
     repo: &mut GitRepo,
-) -> Result<u8, AllocError> {
+    is_update: bool,
+) -> Result<CheckedIn, AllocError> {
     let held = hold_assumed(rt, repo)?;
-    let keep = keep_of(rt, repo, held)?;
-    let files = files_of(rt, repo, tree)?;
+    let keep = keep_of(rt, repo, held, is_update)?;
+    let files = files_of(rt, repo, tree, is_update)?;
     let words = checkin_words(rt.alloc(), repo.git_dir(), tree)?;
     let spawner = spawner_of(rt, repo)?;
     let ended = check_in(rt, threads, words.as_slice(), repo, spawner, files, keep)?;
     ended.show_notes(rt);
-    Ok(ended.end())
+    let index = index_after(rt, &ended)?;
+    Ok(CheckedIn {
+        status: ended.end(),
+        index,
+    })
 }
 
 /// Says where the new index is, and how it takes the place of the repository's own.
@@ -73,13 +97,22 @@ fn show_index(rt: HostRuntime, repo: &GitRepo) -> Result<(), AllocError> {
     Ok(())
 }
 
-/// Says what else is to be said of a status, of a repository and of the folder that was checked in.
-fn explain(rt: HostRuntime, status: u8, repo: &mut GitRepo, tree: &str) -> Result<(), AllocError> {
+/// Says what else is to be said of a status, of a repository and of the folder that was checked in, and where the new
+/// index is if it doesn't take the place of the old one.
+fn explain(
+    rt: HostRuntime,
+    status: u8,
+    repo: &mut GitRepo,
+    tree: &str,
+    is_update: bool,
+) -> Result<(), AllocError> {
     end_run(rt, status, repo);
     match ExitStatus::of(status) {
         Some(ExitStatus::Refused) => show_refused_path(rt, repo),
         Some(ExitStatus::Done | ExitStatus::DoneWithFailures) => {
-            show_index(rt, repo)?;
+            if !is_update {
+                show_index(rt, repo)?;
+            }
             show_kept(rt, repo, tree)?;
         }
         _ => {}
@@ -88,26 +121,42 @@ fn explain(rt: HostRuntime, status: u8, repo: &mut GitRepo, tree: &str) -> Resul
     Ok(())
 }
 
-/// Checks in the files of the folder that the words name, once it is clear that they are meant.
+/// Checks in the files of this folder, once it is clear that they are meant.
+fn check_in_folder<H: Threads + Wait + Sync>(
+    rt: HostRuntime,
+    threads: &H,
+    asked: &CheckinWords<'_>,
+    repo: &mut GitRepo,
+    tree: &str,
+) -> Result<CheckedIn, AllocError> {
+    if let Some(status) = refuse_guarded(rt, repo, ReportForm::Text)? {
+        return Ok(CheckedIn::refused(status));
+    }
+    if let Some(status) = refused_tree(rt, repo, tree, asked)? {
+        return Ok(CheckedIn::refused(status.number()));
+    }
+    let left = check_in_with(rt, threads, tree, repo, asked.update_index)?;
+    explain(rt, left.status, repo, tree, asked.update_index)?;
+    Ok(left)
+}
+
+/// Checks in the files of the folder that the words name.
 fn check_in_words<H: Threads + Wait + Sync>(
     rt: HostRuntime,
     threads: &H,
     asked: &CheckinWords<'_>,
     repo: &mut GitRepo,
 ) -> Result<u8, AllocError> {
-    if let Some(status) = refuse_guarded(rt, repo, ReportForm::Text)? {
-        return Ok(status);
-    }
     let tree = match tree_of(rt, repo, asked)? {
         Ok(tree) => tree,
         Err(status) => return Ok(status.number()),
     };
-    if let Some(status) = refused_tree(rt, repo, tree.as_str(), asked)? {
-        return Ok(status.number());
-    }
-    let status = check_in_with(rt, threads, tree.as_str(), repo)?;
-    explain(rt, status, repo, tree.as_str())?;
-    Ok(status)
+    let lock = match index_lock(rt, repo, asked.update_index, tree.as_str())? {
+        Ok(lock) => lock,
+        Err(status) => return Ok(status),
+    };
+    let left = check_in_folder(rt, threads, asked, repo, tree.as_str())?;
+    put_made(rt, lock, &left)
 }
 
 /// Checks in the files of a folder. No process of git is left running.

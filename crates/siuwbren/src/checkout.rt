@@ -210,7 +210,7 @@ fn check_out_words<H: Threads + Wait + Sync>(
     asked: &Checkout<'_>,
     repo: &mut GitRepo,
 ) -> Result<u8, AllocError> {
-    let index = match index_lock(rt, repo, asked)? {
+    let index = match index_lock(rt, repo, asked.update_index, asked.tree)? {
         Ok(index) => index,
         Err(status) => return Ok(status),
     };

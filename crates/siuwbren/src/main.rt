@@ -8,6 +8,7 @@
 
 mod assumed;
 mod channel;
+mod checkin_index;
 mod checking_in;
 mod checkout;
 mod ends;

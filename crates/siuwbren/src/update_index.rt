@@ -1,4 +1,4 @@
-//! The index that a checkout leaves, with what is told of its files, so that git needn't read them.
+//! The index that a checkout or a check-in leaves, with what is told of its files, so that git needn't read them.
 use crate::ends::{refuse_repository, say};
 use crate::own_index::MOST_INDEX;
 use crate::worktree::is_same_folder;
@@ -7,7 +7,6 @@ use checkout_engine::ExitStatus;
 use edge_kit::Repo;
 use git_edge::{GitFault, GitRepo, IndexLock};
 use git_index::{Entry, Stat, entries_can_stand, read_index, spell_stat_index};
-use siuwbren_words::Checkout;
 use std::alloc::{AllocError, Global};
 
 /// What git says where another process has the lock of the index.
@@ -48,16 +47,17 @@ fn refuse_lock(rt: HostRuntime, fault: &GitFault) -> u8 {
     status
 }
 
-/// The lock of the index, if a checkout is to update that, or the status if it can't.
+/// The lock of the index, if that is to become the one of the files in this folder, or the status if it can't.
 pub fn index_lock(
     rt: HostRuntime,
     repo: &GitRepo,
-    asked: &Checkout<'_>,
+    is_asked: bool,
+    tree: &str,
 ) -> Result<Result<Option<IndexLock>, u8>, AllocError> {
-    if !asked.update_index {
+    if !is_asked {
         return Ok(Ok(None));
     }
-    if let Some(status) = refused_tree(rt, repo, asked.tree)? {
+    if let Some(status) = refused_tree(rt, repo, tree)? {
         return Ok(Err(status.number()));
     }
     match repo.lock_index() {
@@ -106,7 +106,7 @@ fn stats_of(
 }
 
 /// An index with the entries of this one, and with what is told of their files, if it can be read.
-fn with_stats(
+pub fn with_stats(
     alloc: Global,
     index: &[u8],
     told: &[(&[u8], Stat)],
@@ -131,7 +131,7 @@ pub fn updated_index(
     }
 }
 
-/// Puts an index into the place of the repository's own, and gives the status of the checkout then.
+/// Puts an index into the place of the repository's own, and gives the status then, which is this one if all goes well.
 pub fn put_index(
     rt: HostRuntime,
     lock: &mut IndexLock,

@@ -29,6 +29,7 @@ pub record AskedCheckout : Type 0 where
 pub record AskedCheckin : Type 0 where
   pub git_dir : Option Text
   pub allow_empty : Bool
+  pub update_index : Bool
   pub tree : Option Text
 
 pub record AskedPlan : Type 0 where
@@ -60,6 +61,7 @@ abbrev pub shown_checkin : CheckinWords → AskedCheckin
 shown_checkin c = record {
   git_dir = option_map (λ t. t.now) c.git_dir;
   allow_empty = c.allow_empty;
+  update_index = c.update_index;
   tree = option_map (λ t. t.now) c.tree;
 }
 
@@ -102,6 +104,7 @@ abbrev pub checkin_by : List Row → AskedCheckin
 checkin_by rows = record {
   git_dir = first_of (codes "git-dir") rows;
   allow_empty = has_flag rows (codes "allow-empty");
+  update_index = has_flag rows (codes "update-index");
   tree = first_of (codes "tree") rows;
 }
 

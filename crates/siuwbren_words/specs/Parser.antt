@@ -53,11 +53,14 @@ checkout_progress =
 unfoldable pub checkout_app : App
 checkout_app = with_rule (with_rule checkout_progress update_rule) (place_rule (codes "tree"))
 
--- checkin [--git-dir DIR] [--allow-empty] [TREE]
+-- checkin [--git-dir DIR] [--allow-empty] ..
+unfoldable pub checkin_source : App
+checkin_source =
+    with_rule (with_rule (new_app (codes "checkin")) (option_rule (codes "git-dir"))) (flag_rule (codes "allow-empty"))
+
+-- .. [-u] [TREE]
 unfoldable pub checkin_app : App
-checkin_app =
-    with_rule (with_rule (with_rule (new_app (codes "checkin"))
-    (option_rule (codes "git-dir"))) (flag_rule (codes "allow-empty"))) (free_rule (codes "tree"))
+checkin_app = with_rule (with_rule checkin_source update_rule) (free_rule (codes "tree"))
 
 -- plan [--git-dir DIR] [--report FORM] [-z]
 unfoldable pub plan_app : App

@@ -45,6 +45,8 @@ pub struct CheckinWords<'a> {
     pub git_dir: Option<&'a str>,
     /// Whether no file at all may be there.
     pub allow_empty: bool,
+    /// Whether the repository's index becomes that of the files.
+    pub update_index: bool,
     pub tree: Option<&'a str>,
 }
 

@@ -42,6 +42,7 @@ fn checkin_of<'a>(matches: &ArgMatches<'a>) -> CheckinWords<'a>
     CheckinWords {
         git_dir: value_of(matches, "git-dir"),
         allow_empty: has_flag(matches, "allow-empty"),
+        update_index: has_flag(matches, "update-index"),
         tree: value_of(matches, "tree"),
     }
 }

@@ -3,7 +3,8 @@ ghost use Rattle.std.specs.Prelude.{◌≡◌, IfOk, false, codes};
 ghost use Rattle.clap.specs.Words.{app_of, rule_of};
 ghost use Rattle.clap.specs.declared.builder.command.Command.TheViews.{out-Command};
 ghost use Rattle.siuwbren_words.specs.Parser.{option_rule, flag_rule, letter_rule, place_rule, free_rule};
-ghost use Rattle.siuwbren_words.specs.Parser.{checkout_app, checkin_app, plan_app, rehearse_app, audit_app};
+ghost use Rattle.siuwbren_words.specs.Parser.{checkout_app, checkin_source, checkin_app, plan_app, rehearse_app};
+ghost use Rattle.siuwbren_words.specs.Parser.{audit_app};
 ghost use Rattle.siuwbren_words.specs.Parser.{quiet_rule, update_rule, checkout_source, checkout_report, checkout_progress};
 ghost use Rattle.siuwbren_words.specs.Parser.{top_app, repository_app, siuwbren_app};
 
@@ -22,9 +23,8 @@ Status: 0 if all is written, 1 if some path failed, 2 for wrong words, 3 if the 
 4 if output failed, 5 out of memory, 6 for a read fault, 7 if TREE isn't empty. See siuwbren(1).";
 
 const CHECKIN_END: &str = "\
-Example, after which git takes the new index for its own:
-  siuwbren checkin
-  mv .git/index-checkin .git/index
+Example, after which git commit commits the files:
+  siuwbren checkin -u
 
 Status: 0 if each path is looked at, 1 if some path failed, 2 for wrong words, 3 if the repository is
 refused, 4 if output failed, 5 out of memory, 6 for a read fault, 7 if TREE has no file of the index.
@@ -126,7 +126,7 @@ fn update_index<'a>(alloc: Global) -> Arg<'a>
     flag(
         alloc,
         "update-index",
-        "Make the index that of the files: TREE is the worktree",
+        "Make the repository's index that of the files: TREE is its worktree",
     )
     .short('u')
 }
@@ -222,32 +222,42 @@ fn checkout<'a>(alloc: Global) -> Result<Command<'a>, AllocError>
     first.arg(tree)
 }
 
-fn checkin<'a>(alloc: Global) -> Result<Command<'a>, AllocError>
-    ensures app { IfOk result (λ command. app_of command ≡ checkin_app) }
+/// What is checked in where.
+fn checkin_source<'a>(alloc: Global) -> Result<Command<'a>, AllocError>
+    ensures app { IfOk result (λ command. app_of command ≡ checkin_source) }
     ensures local { IfOk result (λ command. (out-Command command).has_globals ≡ false) }
 {
-    let bare = Command::new(alloc, "checkin");
-    let told = with_texts(
-        bare,
-        "Keep the files of a folder as objects and a new index",
-        "siuwbren checkin [OPTIONS] [TREE]",
-        CHECKIN_END,
-    );
     let dir = git_dir(alloc);
-    let first = told.arg(dir)?;
+    let bare = Command::new(alloc, "checkin");
+    let first = bare.arg(dir)?;
     let empty = flag(
         alloc,
         "allow-empty",
         "Take all paths for deleted if no file is there",
     );
-    let second = first.arg(empty)?;
+    first.arg(empty)
+}
+
+fn checkin<'a>(alloc: Global) -> Result<Command<'a>, AllocError>
+    ensures app { IfOk result (λ command. app_of command ≡ checkin_app) }
+    ensures local { IfOk result (λ command. (out-Command command).has_globals ≡ false) }
+{
+    let source = checkin_source(alloc)?;
+    let told = with_texts(
+        source,
+        "Keep the files of a folder as objects and a new index",
+        "siuwbren checkin [OPTIONS] [TREE]",
+        CHECKIN_END,
+    );
+    let update = update_index(alloc);
+    let first = told.arg(update)?;
     let tree = free_place(
         alloc,
         "tree",
         "TREE",
         "The folder with the files [default: the top of the worktree]",
     );
-    second.arg(tree)
+    first.arg(tree)
 }
 
 fn plan<'a>(alloc: Global) -> Result<Command<'a>, AllocError>
