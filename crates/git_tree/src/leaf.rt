@@ -5,11 +5,11 @@ ghost use Rattle.git_tree.specs.Kinds.{HoldsSame};
 ghost use Rattle.edge_kit.specs.Faults.{Rose};
 ghost use Rattle.edge_kit.specs.declared.leaf_state.LeafState.TheVariants.{Fresh};
 
-use crate::file_stat::stat_of;
 use crate::kinds::{FileKind, mode_of};
 use byte_path::Bytes;
 use edge_adapters::{LeafPlace, create_in_tree, empty_file, link_in_tree, remove_own};
 use edge_kit::{Failed, Leaf, LeafState, Mark, SendFault};
+use file_stat::stat_of;
 use git_index::Stat;
 use std::alloc::Global;
 use std::fs::{File, symlink_metadata};

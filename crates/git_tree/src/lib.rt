@@ -2,7 +2,6 @@
 //! files hold, and each object counts its faults.
 #![tactic(auto)]
 
-mod file_stat;
 mod kinds;
 mod leaf;
 mod tree;
