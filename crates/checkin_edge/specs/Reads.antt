@@ -1,7 +1,7 @@
 -- What was read at a path.
 use Rattle.std.specs.Prelude.{ℕ, ◌≤◌, length}
-use Rattle.checkin_edge.specs.declared.looking.FileRead.{FileRead}
-use Rattle.checkin_edge.specs.declared.looking.FileRead.TheVariants as read
+use Rattle.checkin_edge.specs.declared.folder_entry.FileRead.{FileRead}
+use Rattle.checkin_edge.specs.declared.folder_entry.FileRead.TheVariants as read
 
 -- no more bytes than the limit
 abbrev pub IsWithin : ℕ → FileRead → Type 0

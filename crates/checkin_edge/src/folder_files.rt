@@ -4,8 +4,8 @@ ghost use Rattle.edge_kit.specs.Told.{Untold};
 ghost use Rattle.edge_kit.specs.Faults.{Rose};
 ghost use Rattle.checkin_paths.specs.Outside.{no_files_failed};
 
+use crate::folder_entry::{FileRead, WantedKind, read_below};
 use crate::looked_files::LookedFiles;
-use crate::looking::{FileRead, WantedKind, read_below};
 use byte_path::Bytes;
 use checkin_paths::Files;
 use edge_adapters::{LeafPlace, WriteErrors};

@@ -2,11 +2,11 @@
 //! index beside those of a repository. They tell nothing of what they hold, and each counts its faults.
 #![tactic(auto)]
 
+mod folder_entry;
 mod folder_files;
 mod folder_keep;
 mod held_entries;
 mod looked_files;
-mod looking;
 mod new_file;
 mod raw_index;
 mod stored_object;

@@ -2,7 +2,7 @@
 //! its journal, and a check-in.
 #![tactic(auto)]
 
-mod checking_in;
+mod checkin;
 mod failure_sink;
 mod journal_file;
 mod messages;
@@ -11,7 +11,7 @@ mod own_words;
 mod progress;
 mod refused;
 
-pub use checking_in::{EndedCheckin, check_in};
+pub use checkin::{EndedCheckin, check_in};
 pub use journal_file::{EndedCheckout, JournalFile};
 pub use messages::message_of;
 pub use notes::{show_drivers, show_errors};

@@ -16,7 +16,7 @@ use program_kit::{
     CountingTree, EndedCheckout, JournalFile, Progress, has_terminal, show_drivers, show_errors,
     show_refused_path,
 };
-use siuwbren_words::{Checkout, ProgressChoice};
+use siuwbren_words::{CheckoutWords, ProgressChoice};
 use std::alloc::AllocError;
 use std::mem::forget;
 use std::sync::atomic::{AtomicBool, AtomicU32, Ordering};
@@ -92,7 +92,7 @@ fn explain(rt: HostRuntime, status: u8, is_quiet: bool, repo: &mut GitRepo) {
 /// The worktree of a checkout, and whether a driver has answered, which they share.
 fn tree_of(
     rt: HostRuntime,
-    asked: &Checkout<'_>,
+    asked: &CheckoutWords<'_>,
     keeps: Keeps,
 ) -> Result<(GitTree, Driven), AllocError> {
     let driven = Arc::new(rt.alloc(), AtomicBool::new(false))?;
@@ -108,7 +108,7 @@ fn tree_of(
 /// The index of a checkout with this status, if it is asked for and each path was looked at.
 fn index_after(
     rt: HostRuntime,
-    asked: &Checkout<'_>,
+    asked: &CheckoutWords<'_>,
     repo: &mut GitRepo,
     tree: &GitTree,
     status: u8,
@@ -125,7 +125,7 @@ fn index_after(
 fn check_out_with<P: Spawner, H: Threads + Wait + Sync>(
     rt: HostRuntime,
     threads: &H,
-    asked: &Checkout<'_>,
+    asked: &CheckoutWords<'_>,
     repo: &mut GitRepo,
     spawner: &mut P,
 ) -> Result<Left, AllocError> {
@@ -169,7 +169,7 @@ fn check_out_with<P: Spawner, H: Threads + Wait + Sync>(
 fn check_out_of<H: Threads + Wait + Sync>(
     rt: HostRuntime,
     threads: &H,
-    asked: &Checkout<'_>,
+    asked: &CheckoutWords<'_>,
     repo: &mut GitRepo,
 ) -> Result<Left, AllocError> {
     let drivers = ProcessSpawner::in_place(rt, repo.driver_place()?)?;
@@ -186,7 +186,7 @@ fn check_out_of<H: Threads + Wait + Sync>(
 fn check_out_all<H: Threads + Wait + Sync>(
     rt: HostRuntime,
     threads: &H,
-    asked: &Checkout<'_>,
+    asked: &CheckoutWords<'_>,
     repo: &mut GitRepo,
     beside: Beside,
 ) -> Result<u8, AllocError> {
@@ -207,7 +207,7 @@ fn check_out_all<H: Threads + Wait + Sync>(
 fn check_out_words<H: Threads + Wait + Sync>(
     rt: HostRuntime,
     threads: &H,
-    asked: &Checkout<'_>,
+    asked: &CheckoutWords<'_>,
     repo: &mut GitRepo,
 ) -> Result<u8, AllocError> {
     let index = match index_lock(rt, repo, asked.update_index, asked.tree)? {
@@ -234,7 +234,7 @@ fn check_out_words<H: Threads + Wait + Sync>(
 pub fn check_out<H: Threads + Wait + Sync>(
     rt: HostRuntime,
     threads: &H,
-    asked: &Checkout<'_>,
+    asked: &CheckoutWords<'_>,
 ) -> Result<u8, AllocError> {
     match GitRepo::open(rt, asked.git_dir, asked.commit) {
         Ok(mut repo) => {

@@ -8,8 +8,8 @@
 
 mod assumed;
 mod channel;
+mod checkin;
 mod checkin_index;
-mod checking_in;
 mod checkout;
 mod ends;
 mod engine_words;
@@ -18,16 +18,16 @@ mod journal;
 mod kept_notes;
 mod own_index;
 mod plan;
-mod rehearsing;
+mod rehearsed;
 mod update_index;
 mod worktree;
 
-use crate::checking_in::check_in_tree;
+use crate::checkin::check_in_tree;
 use crate::checkout::check_out;
 use crate::ends::{end_with, give, refuse_words};
 use crate::journal::audit;
 use crate::plan::show_plan;
-use crate::rehearsing::rehearse;
+use crate::rehearsed::rehearse;
 use checkout_engine::ExitStatus;
 use edge_adapters::hold_standard;
 use program_kit::words_of;

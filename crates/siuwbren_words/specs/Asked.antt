@@ -7,7 +7,7 @@ use Rattle.byte_path.specs.Decimal.{decimal_within}
 use Rattle.report_forms.specs.declared.form.ReportForm.{ReportForm}
 use Rattle.siuwbren_words.specs.Parser.{GivesText, command_in, siuwbren_app}
 use Rattle.siuwbren_words.specs.Values.{is_set, workers_of, plan_form, report_form, progress_of}
-use Rattle.siuwbren_words.specs.declared.command.Checkout.{Checkout}
+use Rattle.siuwbren_words.specs.declared.command.CheckoutWords.{CheckoutWords}
 use Rattle.siuwbren_words.specs.declared.command.CheckinWords.{CheckinWords}
 use Rattle.siuwbren_words.specs.declared.command.PlanWords.{PlanWords}
 use Rattle.siuwbren_words.specs.declared.command.ProgressChoice.{ProgressChoice}
@@ -44,7 +44,7 @@ pub data Asked : Type 0 where
   rehearse : ℕ → ℕ → Asked
   audit : Text → Asked
 
-abbrev pub shown_checkout : Checkout → AskedCheckout
+abbrev pub shown_checkout : CheckoutWords → AskedCheckout
 shown_checkout c = record {
   git_dir = option_map (λ t. t.now) c.git_dir;
   commit = option_map (λ t. t.now) c.commit;

@@ -12,7 +12,7 @@ pub enum ProgressChoice {
 
 /// A checkout into the folder `tree`.
 #[derive(Clone, Copy, Debug)]
-pub struct Checkout<'a> {
+pub struct CheckoutWords<'a> {
     /// The git folder, or none for the one that git finds.
     pub git_dir: Option<&'a str>,
     /// The commit, tag or tree to check out, or none for the index.
@@ -53,7 +53,7 @@ pub struct CheckinWords<'a> {
 #[derive(Clone, Copy, Debug)]
 pub enum Subcommand<'a> {
     /// Write the worktree.
-    Checkout(Checkout<'a>),
+    Checkout(CheckoutWords<'a>),
     /// Keep a worktree's files as objects and a new index.
     Checkin(CheckinWords<'a>),
     /// Show what a checkout would do.

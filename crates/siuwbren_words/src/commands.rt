@@ -5,13 +5,13 @@ ghost use Rattle.clap.specs.Words.{found_of, rows_of};
 ghost use Rattle.siuwbren_words.specs.Asked.{shown_checkout, shown_checkin, shown_plan, shown};
 ghost use Rattle.siuwbren_words.specs.Asked.{checkout_by, checkin_by, plan_by, rehearse_by, audit_by, asked_by};
 
-use crate::command::{CheckinWords, Checkout, PlanWords, Subcommand};
+use crate::command::{CheckinWords, CheckoutWords, PlanWords, Subcommand};
 use crate::values::{
     Mistake, has_flag, paths_of, plan_form, progress_of, report_form, seed_of, value_of, workers_of,
 };
 use clap::ArgMatches;
 
-fn checkout_of<'a>(matches: &ArgMatches<'a>) -> Result<Checkout<'a>, Mistake<'a>>
+fn checkout_of<'a>(matches: &ArgMatches<'a>) -> Result<CheckoutWords<'a>, Mistake<'a>>
     ensures { option_map shown_checkout (result_ok result) ≡ checkout_by (rows_of (found_of matches.now)) }
 {
     let workers = workers_of(value_of(matches, "workers"))?;
@@ -23,7 +23,7 @@ fn checkout_of<'a>(matches: &ArgMatches<'a>) -> Result<Checkout<'a>, Mistake<'a>
         quiet,
     )?;
     let tree = value_of(matches, "tree").ok_or(Mistake::NoTree)?;
-    Ok(Checkout {
+    Ok(CheckoutWords {
         git_dir: value_of(matches, "git-dir"),
         commit: value_of(matches, "commit"),
         workers,

@@ -6,9 +6,9 @@ mod command;
 mod commands;
 mod fault;
 mod parser;
-mod reading;
 mod values;
+mod words_read;
 
-pub use command::{CheckinWords, Checkout, PlanWords, ProgressChoice, Subcommand};
+pub use command::{CheckinWords, CheckoutWords, PlanWords, ProgressChoice, Subcommand};
 pub use fault::UsageFault;
-pub use reading::read_words;
+pub use words_read::read_words;

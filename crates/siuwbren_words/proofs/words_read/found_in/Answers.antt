@@ -2,7 +2,7 @@ use Rattle.std.proofs.Common.{◌≡◌, true, sym, subst}
 use Rattle.clap.specs.Words.{App, is_simple_and_free}
 use Rattle.siuwbren_words.proofs.Found.{finds_in}
 use Rattle.siuwbren_words.proofs.Simple.{siuwbren_simple}
-use Rattle.siuwbren_words.proofs.reading.found_in.Goals as goal
+use Rattle.siuwbren_words.proofs.words_read.found_in.Goals as goal
 
 pub matches_in-requires : goal.matches_in-requires
 matches_in-requires c = subst (λ (a : App). is_simple_and_free a ≡ true) (sym c.in-Ok.ensures) siuwbren_simple

@@ -1,5 +1,5 @@
 use Rattle.siuwbren_words.proofs.Found.{finds_matches, finds_fault, left_holds}
-use Rattle.siuwbren_words.proofs.reading.matches_in.Goals as goal
+use Rattle.siuwbren_words.proofs.words_read.matches_in.Goals as goal
 
 pub returns-in-Ok : goal.returns-in-Ok
 returns-in-Ok c = finds_matches _ _ _ (c.in-Ok.ensures.kinds c.requires) (c.in-Ok.ensures.matches (left_holds _ _ c.requires)).1
