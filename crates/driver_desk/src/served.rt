@@ -16,11 +16,11 @@ ghost use Rattle.driver_desk.specs.Places.{IsAt, AreLost};
 ghost use Rattle.driver_desk.specs.On.{IsOn, behind, IsInHand, Grows, Keeps, Moves};
 ghost use Rattle.driver_desk.specs.On.{IsOpened, IsNotOpened, IsReplied, AfterReply};
 
+use crate::card_read::read_card;
 use crate::closed_card::{Work, close_empty, close_unread, end_told, refuse};
 use crate::late::Late;
 use crate::laws::desk_laws;
 use crate::notes::note_down;
-use crate::read_card::read_card;
 use crate::recorder::Recorder;
 use checkout_core::{Event, OpenCause};
 use convert_plan::Card;

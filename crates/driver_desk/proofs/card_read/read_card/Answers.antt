@@ -1,7 +1,7 @@
 use Rattle.std.proofs.Common.{refl}
 use Rattle.convert_plan.specs.Card.{card_seen}
 use Rattle.driver_desk.proofs.ReadCards.{keeps_card}
-use Rattle.driver_desk.proofs.read_card.read_card.Goals as goal
+use Rattle.driver_desk.proofs.card_read.read_card.Goals as goal
 
 pub returns-clause-read : goal.returns-clause-read
 returns-clause-read g c =

@@ -3,7 +3,7 @@ use Rattle.std.specs.Global.{Vec}
 use Rattle.object_dir.specs.Object.{IsObject, AfterRead}
 use Rattle.object_dir.specs.declared.fault.ObjectFault.{ObjectFault}
 use Rattle.driver_desk.proofs.ReadCards.{read_done, count_done, read_fault, count_fault}
-use Rattle.driver_desk.proofs.read_card.prepared_from.Goals as goal
+use Rattle.driver_desk.proofs.card_read.prepared_from.Goals as goal
 
 pub returns-in-Ok-clause-read : goal.returns-in-Ok-clause-read
 returns-in-Ok-clause-read g c seen object conversion is =
