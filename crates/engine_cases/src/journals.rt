@@ -1,9 +1,8 @@
 //! Journals: what the words get, and the journal of a checkout.
-use crate::cases::{case_of, words_of};
-use crate::gate::Watch;
-use crate::world::{play, world_of};
-use case_kit::{Cell, number_of, unknown};
+use crate::runs::play;
+use case_kit::{Cell, Words, found, number_of};
 use edge_kit::{Blob, MemoryBlob, MemoryRepo, MemorySink, Repo, RepoFail};
+use engine_world::{Watch, case_of, words_of, world_of};
 use journal_run::{checkout_journal, journal_run};
 use std::alloc::{AllocError, Global};
 use std::string::String;
@@ -59,45 +58,79 @@ fn answered<H: Threads + Wait + Sync>(
     Ok((status, Vec::from_slice(alloc, sink.bytes())?))
 }
 
+/// What a cell says of a question.
+#[derive(Clone, Copy)]
+enum Word {
+    Words,
+    File,
+    Failing,
+    Sink,
+    Audited,
+}
+
+const WORDS: Words<Word> = &[
+    (b"words", Word::Words),
+    (b"file", Word::File),
+    (b"failing", Word::Failing),
+    (b"sink", Word::Sink),
+    (b"audited", Word::Audited),
+];
+
 /// Takes what a cell says of a question.
 fn take(alloc: Global, asked: &mut Asked, cell: &Cell) -> Result<(), Fail> {
-    let word = cell.key.as_slice();
-    if word == b"words".as_slice() {
-        asked.words = Vec::from_slice(alloc, &cell.value)?;
-    } else if word == b"file".as_slice() {
-        asked.file = Some(Vec::from_slice(alloc, &cell.value)?);
-    } else if word == b"failing".as_slice() {
-        asked.is_failing = true;
-    } else if word == b"sink".as_slice() {
-        asked.sink_fails = Some(number_of(&cell.value)?);
-    } else if word == b"audited".as_slice() {
-        asked.is_audited = true;
-    } else {
-        return Err(unknown(word));
+    match found(WORDS, &cell.key)? {
+        Word::Words => asked.words = Vec::from_slice(alloc, &cell.value)?,
+        Word::File => asked.file = Some(Vec::from_slice(alloc, &cell.value)?),
+        Word::Failing => asked.is_failing = true,
+        Word::Sink => asked.sink_fails = Some(number_of(&cell.value)?),
+        Word::Audited => asked.is_audited = true,
     }
     Ok(())
 }
 
-/// The status and the answer to these cells: `words`, all of them; `file`, if there is one, and `failing`, if it can't be
-/// read; `sink`, the write that fails. With `audited`, whether an audit finds that the answer is a journal that is legal
-/// and whole stands in its place.
+/// What the cells ask.
+fn asked_of(alloc: Global, cells: &[Cell]) -> Result<Asked, Fail> {
+    let mut asked = audit_of(alloc, None)?;
+    take_all(alloc, &mut asked, cells)?;
+    Ok(asked)
+}
+
+/// Takes what each cell says of a question.
+fn take_all(alloc: Global, asked: &mut Asked, cells: &[Cell]) -> Result<(), Fail> {
+    for cell in cells {
+        take(alloc, asked, cell)?;
+    }
+    Ok(())
+}
+
+/// Appends whether an audit finds that a journal is legal and whole.
+fn push_judged<H: Threads + Wait + Sync>(
+    rt: &H,
+    alloc: Global,
+    seen: &mut String,
+    journal: Vec<u8>,
+) -> Result<(), Fail> {
+    let (judged, said) = answered(rt, alloc, &audit_of(alloc, Some(journal))?)?;
+    let said = str::from_utf8(&said)?;
+    let is_legal = judged == 0 && said.starts_with("legal ") && said.ends_with(" 0\n");
+    writeln!(seen, "legal {is_legal}")?;
+    Ok(())
+}
+
+/// The status and the answer to these cells: `words`, all of them; `file`, if there is one, and `failing`, if it can't
+/// be read; `sink`, the write that fails. With `audited`, whether an audit finds that the answer is a journal that is
+/// legal and whole stands in its place.
 pub fn journal_of<H: Threads + Wait + Sync>(
     rt: &H,
     alloc: Global,
     cells: &[Cell],
 ) -> Result<String, Fail> {
-    let mut asked = audit_of(alloc, None)?;
-    for cell in cells {
-        take(alloc, &mut asked, cell)?;
-    }
+    let asked = asked_of(alloc, cells)?;
     let (status, text) = answered(rt, alloc, &asked)?;
     let mut seen = String::new(alloc);
     writeln!(seen, "status {status}")?;
     if asked.is_audited {
-        let (judged, said) = answered(rt, alloc, &audit_of(alloc, Some(text))?)?;
-        let said = str::from_utf8(&said)?;
-        let is_legal = judged == 0 && said.starts_with("legal ") && said.ends_with(" 0\n");
-        writeln!(seen, "legal {is_legal}")?;
+        push_judged(rt, alloc, &mut seen, text)?;
     } else {
         seen.push_str(str::from_utf8(&text)?)?;
     }

@@ -1,12 +1,11 @@
 //! What runs leave, and its text.
-use crate::cases::case_of;
-use crate::gate::Watch;
+use crate::runs::play;
 use crate::talks::push_talks;
 use crate::work::{push_asked, push_counted, push_work};
-use crate::world::{play, world_of};
 use case_kit::Cell;
 use checkout_core::Event;
 use edge_kit::{DriverSeen, TreeFile};
+use engine_world::{Watch, case_of, world_of};
 use std::alloc::Global;
 use std::string::String;
 use std::sync::Wait;
@@ -42,17 +41,17 @@ pub enum View {
     Counted,
 }
 
-/// The view of a kind of blocks.
-pub fn view_of(kind: &[u8]) -> Option<View> {
-    if kind == b"run".as_slice() {
-        Some(View::Run)
-    } else if kind == b"work".as_slice() {
-        Some(View::Work)
-    } else if kind == b"counted".as_slice() {
-        Some(View::Counted)
-    } else {
-        None
+/// Appends the lines that the cells ask for.
+fn push_all_asked(
+    alloc: Global,
+    seen: &mut String,
+    left: &Left<'_>,
+    cells: &[Cell],
+) -> Result<(), Fail> {
+    for cell in cells {
+        push_asked(alloc, seen, left, cell)?;
     }
+    Ok(())
 }
 
 /// The text of what a run left, and the lines that the cells ask for.
@@ -64,9 +63,7 @@ fn said(alloc: Global, view: View, cells: &[Cell], left: &Left<'_>) -> Result<St
         View::Work => push_work(alloc, &mut seen, left)?,
         View::Counted => push_counted(&mut seen, left)?,
     }
-    for cell in cells {
-        push_asked(alloc, &mut seen, left, cell)?;
-    }
+    push_all_asked(alloc, &mut seen, left, cells)?;
     Ok(seen)
 }
 

@@ -4,24 +4,17 @@
 //! any other both texts.
 #![tactic(auto)]
 
-mod cases;
-mod gate;
-mod index;
 mod journals;
 mod left;
-mod objects;
-mod out_of_memory;
 mod reports;
-mod scripts;
+mod runs;
 mod smudges;
-mod stored;
 mod talks;
 mod work;
-mod world;
 
-use case_kit::{Block, named_blocks, parted, print_verdict, unknown};
+use case_kit::{Block, Words, found, named_blocks, parted, print_verdict};
 use journals::{journal_of, recorded};
-use left::{ran, talked, view_of};
+use left::{View, ran, talked};
 use reports::reported;
 use smudges::{command_of, host_of, run_of};
 use std::alloc::Global;
@@ -30,42 +23,37 @@ use std::sync::Wait;
 use std::test::Fail;
 use std::thread::Threads;
 
-/// What comes of a block that takes threads.
-fn text_of<H: Threads + Wait + Sync>(
-    rt: &H,
-    alloc: Global,
-    block: &Block,
-) -> Result<Option<String>, Fail> {
-    let (kind, _) = parted(&block.form);
-    let cells = block.cells.as_slice();
-    if let Some(view) = view_of(kind) {
-        Ok(Some(ran(rt, alloc, view, cells, b"")?))
-    } else if kind == b"talk".as_slice() {
-        Ok(Some(talked(rt, alloc, cells)?))
-    } else if kind == b"journal".as_slice() {
-        Ok(Some(journal_of(rt, alloc, cells)?))
-    } else if kind == b"recorded".as_slice() {
-        Ok(Some(recorded(rt, alloc, cells)?))
-    } else {
-        Ok(None)
-    }
+/// The kind of a block.
+#[derive(Clone, Copy)]
+enum Kind {
+    Run,
+    Work,
+    Counted,
+    Talk,
+    Journal,
+    Recorded,
+    Report,
+    Command,
+    Single,
+    Host,
 }
 
-/// What comes of any other block.
-fn bytes_of(alloc: Global, block: &Block) -> Result<Vec<u8>, Fail> {
-    let (kind, _) = parted(&block.form);
-    let form = block.form.as_slice();
-    if kind == b"report".as_slice() {
-        reported(alloc, &block.cells)
-    } else if form == b"command text path".as_slice() {
-        command_of(alloc, block)
-    } else if kind == b"single".as_slice() {
-        run_of(alloc, block)
-    } else if kind == b"host".as_slice() {
-        host_of(alloc, block)
-    } else {
-        Err(unknown(form))
-    }
+const KINDS: Words<Kind> = &[
+    (b"run", Kind::Run),
+    (b"work", Kind::Work),
+    (b"counted", Kind::Counted),
+    (b"talk", Kind::Talk),
+    (b"journal", Kind::Journal),
+    (b"recorded", Kind::Recorded),
+    (b"report", Kind::Report),
+    (b"command", Kind::Command),
+    (b"single", Kind::Single),
+    (b"host", Kind::Host),
+];
+
+/// The bytes of a text.
+fn bytes_of(alloc: Global, text: Result<String, Fail>) -> Result<Vec<u8>, Fail> {
+    Ok(Vec::from_slice(alloc, text?.as_bytes())?)
 }
 
 /// What comes of a block, or the error of a kind or cell that isn't known.
@@ -74,9 +62,19 @@ fn came_of<H: Threads + Wait + Sync>(
     alloc: Global,
     block: &Block,
 ) -> Result<Vec<u8>, Fail> {
-    match text_of(rt, alloc, block)? {
-        Some(text) => Ok(Vec::from_slice(alloc, text.as_bytes())?),
-        None => bytes_of(alloc, block),
+    let (kind, _) = parted(&block.form);
+    let cells = block.cells.as_slice();
+    match found(KINDS, kind)? {
+        Kind::Run => bytes_of(alloc, ran(rt, alloc, View::Run, cells, b"")),
+        Kind::Work => bytes_of(alloc, ran(rt, alloc, View::Work, cells, b"")),
+        Kind::Counted => bytes_of(alloc, ran(rt, alloc, View::Counted, cells, b"")),
+        Kind::Talk => bytes_of(alloc, talked(rt, alloc, cells)),
+        Kind::Journal => bytes_of(alloc, journal_of(rt, alloc, cells)),
+        Kind::Recorded => bytes_of(alloc, recorded(rt, alloc, cells)),
+        Kind::Report => reported(alloc, cells),
+        Kind::Command => command_of(alloc, block),
+        Kind::Single => run_of(alloc, block),
+        Kind::Host => host_of(alloc, block),
     }
 }
 

@@ -1,6 +1,6 @@
 //! Reports of paths.
 use byte_path::Bytes;
-use case_kit::{Cell, unknown};
+use case_kit::{Cell, Words, found, unknown};
 use checkout_core::{FailCause, FilterCause, ObjectKind, SkipCause, Verdict};
 use checkout_report::{ReportPath, is_failed, report_text};
 use edge_kit::Mark;
@@ -17,34 +17,32 @@ fn mark_of(letter: &[u8]) -> Result<Mark, Fail> {
     }
 }
 
-/// How a driver's refusal ends.
-fn unfiltered(cause: FilterCause, unencoded: bool) -> Verdict {
-    Verdict::Unfiltered { cause, unencoded }
-}
-
-fn verdict_of(word: &[u8]) -> Result<Verdict, Fail> {
-    if word == b"written".as_slice() {
-        Ok(Verdict::Written { unencoded: false })
-    } else if word == b"unencoded".as_slice() {
-        Ok(Verdict::Written { unencoded: true })
-    } else if word == b"refused".as_slice() {
-        Ok(unfiltered(FilterCause::Error, false))
-    } else if word == b"bad-packet-unencoded".as_slice() {
-        Ok(unfiltered(FilterCause::Broken(BreakCause::BadPacket), true))
-    } else if word == b"no-object".as_slice() {
-        Ok(Verdict::Failed(FailCause::Object(ObjectKind::Absent)))
-    } else if word == b"unwritten".as_slice() {
-        Ok(Verdict::Failed(FailCause::WriteFailed))
-    } else if word == b"unread".as_slice() {
-        Ok(Verdict::Failed(FailCause::ReadFailed))
-    } else if word == b"no-memory".as_slice() {
-        Ok(Verdict::NoMemory)
-    } else if word == b"gitlink".as_slice() {
-        Ok(Verdict::Skipped(SkipCause::Gitlink))
-    } else {
-        Err(unknown(word))
-    }
-}
+const VERDICTS: Words<Verdict> = &[
+    (b"written", Verdict::Written { unencoded: false }),
+    (b"unencoded", Verdict::Written { unencoded: true }),
+    (
+        b"refused",
+        Verdict::Unfiltered {
+            cause: FilterCause::Error,
+            unencoded: false,
+        },
+    ),
+    (
+        b"bad-packet-unencoded",
+        Verdict::Unfiltered {
+            cause: FilterCause::Broken(BreakCause::BadPacket),
+            unencoded: true,
+        },
+    ),
+    (
+        b"no-object",
+        Verdict::Failed(FailCause::Object(ObjectKind::Absent)),
+    ),
+    (b"unwritten", Verdict::Failed(FailCause::WriteFailed)),
+    (b"unread", Verdict::Failed(FailCause::ReadFailed)),
+    (b"no-memory", Verdict::NoMemory),
+    (b"gitlink", Verdict::Skipped(SkipCause::Gitlink)),
+];
 
 /// The report of the paths of these cells, each a path, its mark and its verdict. A line `failed` or `not` follows for
 /// each path.
@@ -56,7 +54,7 @@ pub fn reported(alloc: Global, cells: &[Cell]) -> Result<Vec<u8>, Fail> {
         let [path, mark, verdict] = three else {
             return Err(unknown(b"two cells"));
         };
-        let verdict = verdict_of(&verdict.value)?;
+        let verdict = found(VERDICTS, &verdict.value)?;
         paths.push(ReportPath {
             path: Bytes::copy_of(alloc, &path.value)?,
             mark: mark_of(&mark.value)?,

@@ -1,7 +1,7 @@
 //! Commands that run once for each content, in memory.
-use crate::scripts::singles_of;
 use case_kit::{Block, number_of, unknown};
 use edge_kit::{Failed, Link, MemorySpawner, Spawner, Starter};
+use engine_world::singles_of;
 use one_shot::{MemoryOnceMaker, Once, OnceMaker, OnceSpawner, once_command};
 use std::alloc::{AllocError, Global};
 use std::test::Fail;
@@ -11,6 +11,9 @@ pub fn command_of(alloc: Global, block: &Block) -> Result<Vec<u8>, Fail> {
     let [command, path] = block.cells.as_slice() else {
         return Err(unknown(&block.form));
     };
+    if block.form.as_slice() != b"command text path".as_slice() {
+        return Err(unknown(&block.form));
+    }
     let text = once_command(alloc, &command.value, &path.value)?;
     Ok(Vec::from_slice(alloc, text.as_slice())?)
 }

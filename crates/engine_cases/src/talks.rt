@@ -61,8 +61,8 @@ fn push_driver(seen: &mut String, driver: &DriverSeen) -> Result<(), Fail> {
     Ok(())
 }
 
-/// Appends the output, the status and the files, the notes of the talk, how each path changed hands, and what each start
-/// was sent.
+/// Appends the output, the status and the files, the notes of the talk, how each path changed hands, and what each
+/// start was sent.
 pub fn push_talks(seen: &mut String, left: &Left<'_>) -> Result<(), Fail> {
     push_run(seen, left)?;
     for event in left.history {

@@ -13,7 +13,7 @@
 use crate::left::Left;
 use crate::talks::push_steps;
 use byte_path::read_decimal;
-use case_kit::{Cell, number_of, parted, push_all};
+use case_kit::{Cell, Words, meant, number_of, parted, push_all};
 use checkout_core::Event;
 use edge_kit::{Mark, TreeFile};
 use std::alloc::{AllocError, Global};
@@ -188,6 +188,29 @@ fn is_of_talk(event: Event, of: u32, paths: &[u32]) -> bool {
     }
 }
 
+/// Appends the numbers between which spaces stand.
+fn push_numbers(numbers: &mut Vec<u32>, text: &[u8]) -> Result<(), Fail> {
+    for word in text.split(|byte| *byte == b' ') {
+        numbers.push(number_of(word)?)?;
+    }
+    Ok(())
+}
+
+/// Adds the notes of this driver's talk of these paths, a line for each.
+fn push_notes_of(
+    seen: &mut String,
+    history: &[Event],
+    driver: u32,
+    paths: &[u32],
+) -> Result<(), Fail> {
+    for event in history {
+        if is_of_talk(*event, driver, paths) {
+            writeln!(seen, "{event:?}")?;
+        }
+    }
+    Ok(())
+}
+
 /// Adds the notes of a driver's talk, a line for each. The text has its number and those of its paths.
 fn push_notes(
     alloc: Global,
@@ -198,27 +221,43 @@ fn push_notes(
     let (driver, rest) = parted(text);
     let driver = number_of(driver)?;
     let mut paths = Vec::new(alloc);
-    for word in rest.split(|byte| *byte == b' ') {
-        paths.push(number_of(word)?)?;
-    }
-    for event in history {
-        if is_of_talk(*event, driver, &paths) {
-            writeln!(seen, "{event:?}")?;
-        }
-    }
+    push_numbers(&mut paths, rest)?;
+    push_notes_of(seen, history, driver, &paths)
+}
+
+/// Adds whether the two actors met.
+fn push_met(seen: &mut String, is_met: bool) -> Result<(), Fail> {
+    writeln!(seen, "met {is_met}")?;
     Ok(())
 }
 
-/// Whether a cell asks for more lines.
-pub fn asks(word: &[u8]) -> bool {
-    word == b"below".as_slice()
-        || word == b"closer".as_slice()
-        || word == b"hands".as_slice()
-        || word == b"steps".as_slice()
-        || word == b"notes".as_slice()
-        || word == b"met".as_slice()
-        || word == b"back".as_slice()
+/// Adds how many blobs and drivers were given back.
+fn push_back(seen: &mut String, blobs: u32, drivers: usize) -> Result<(), Fail> {
+    writeln!(seen, "back {blobs} blobs {drivers} drivers")?;
+    Ok(())
 }
+
+/// What a cell asks for.
+#[derive(Clone, Copy)]
+enum Word {
+    Below,
+    Closer,
+    Hands,
+    Steps,
+    Notes,
+    Met,
+    Back,
+}
+
+const WORDS: Words<Word> = &[
+    (b"below", Word::Below),
+    (b"closer", Word::Closer),
+    (b"hands", Word::Hands),
+    (b"steps", Word::Steps),
+    (b"notes", Word::Notes),
+    (b"met", Word::Met),
+    (b"back", Word::Back),
+];
 
 /// Adds the lines that a cell asks for.
 pub fn push_asked(
@@ -227,27 +266,15 @@ pub fn push_asked(
     left: &Left<'_>,
     cell: &Cell,
 ) -> Result<(), Fail> {
-    let word = cell.key.as_slice();
     let value = cell.value.as_slice();
-    if word == b"below".as_slice() {
-        push_counts(seen, left.history, number_of(value)?)?;
-    } else if word == b"closer".as_slice() {
-        push_closer(seen, left.history, number_of(value)?)?;
-    } else if word == b"hands".as_slice() {
-        push_steps(seen, left.history, number_of(value)?)?;
-    } else if word == b"steps".as_slice() {
-        push_all_steps(seen, left.history)?;
-    } else if word == b"notes".as_slice() {
-        push_notes(alloc, seen, left.history, value)?;
-    } else if word == b"met".as_slice() {
-        writeln!(seen, "met {}", left.gate.is_met())?;
-    } else if word == b"back".as_slice() {
-        writeln!(
-            seen,
-            "back {} blobs {} drivers",
-            left.blobs,
-            left.drivers.len()
-        )?;
+    match meant(WORDS, &cell.key) {
+        Some(Word::Below) => push_counts(seen, left.history, number_of(value)?),
+        Some(Word::Closer) => push_closer(seen, left.history, number_of(value)?),
+        Some(Word::Hands) => push_steps(seen, left.history, number_of(value)?),
+        Some(Word::Steps) => push_all_steps(seen, left.history),
+        Some(Word::Notes) => push_notes(alloc, seen, left.history, value),
+        Some(Word::Met) => push_met(seen, left.gate.is_met()),
+        Some(Word::Back) => push_back(seen, left.blobs, left.drivers.len()),
+        None => Ok(()),
     }
-    Ok(())
 }

@@ -1,6 +1,6 @@
 //! The index of a case, as git spells it (gitformat-index(5)).
 use crate::objects::{HI, NO_ENTRIES, ONE_ENTRY, name_of, named_by};
-use case_kit::{number_of, parted, unknown};
+use case_kit::{Words, found, given, meant, number_of, parted, unknown};
 use std::alloc::{AllocError, Global};
 use std::test::Fail;
 
@@ -117,17 +117,37 @@ fn push_entry(
     Ok(())
 }
 
-fn hash_of(word: &[u8]) -> Result<[u8; 20], Fail> {
-    if word == b"one".as_slice() {
-        Ok(ONE_ENTRY)
-    } else if word == b"none".as_slice() {
-        Ok(NO_ENTRIES)
-    } else if word == b"other".as_slice() {
-        Ok([1; 20])
-    } else {
-        Err(unknown(word))
-    }
+const HASHES: Words<[u8; 20]> = &[
+    (b"one", ONE_ENTRY),
+    (b"none", NO_ENTRIES),
+    (b"other", [1; 20]),
+];
+
+/// What a cell says of the index.
+#[derive(Clone, Copy)]
+enum Word {
+    Entry,
+    Given,
+    Version,
+    Plain,
+    More,
+    Gitlinks,
+    Tail,
+    Hash,
+    Absent,
 }
+
+const WORDS: Words<Word> = &[
+    (b"entry", Word::Entry),
+    (b"given", Word::Given),
+    (b"version", Word::Version),
+    (b"plain", Word::Plain),
+    (b"more", Word::More),
+    (b"gitlinks", Word::Gitlinks),
+    (b"tail", Word::Tail),
+    (b"hash", Word::Hash),
+    (b"absent", Word::Absent),
+];
 
 /// The index of a case.
 #[derive(Drop)]
@@ -215,30 +235,48 @@ impl IndexCase {
         Ok(())
     }
 
+    /// Adds so many plain entries of the object of this letter.
+    fn add_more(&mut self, alloc: Global, letter: &[u8], digits: &[u8]) -> Result<(), Fail> {
+        let object = named_by(letter)?;
+        given(self.add_many(alloc, PLAIN, &object, number_of(digits)?))
+    }
+
+    /// Adds so many entries with this mode and this object.
+    fn add_counted(
+        &mut self,
+        alloc: Global,
+        mode: u32,
+        object: &[u8; 20],
+        digits: &[u8],
+    ) -> Result<(), Fail> {
+        given(self.add_many(alloc, mode, object, number_of(digits)?))
+    }
+
+    /// Takes what a cell says of the index.
+    fn take(&mut self, alloc: Global, word: Word, value: &[u8]) -> Result<(), Fail> {
+        let (front, rest) = parted(value);
+        match word {
+            Word::Entry => return self.add_lettered(front, rest),
+            Word::Given => return self.add_given(front, rest),
+            Word::Plain => return self.add_counted(alloc, PLAIN, &HI, value),
+            Word::More => return self.add_more(alloc, front, rest),
+            Word::Gitlinks => return self.add_counted(alloc, GITLINK, &[0; 20], value),
+            Word::Version => self.version = number_of(value)?,
+            Word::Tail => self.tail = Vec::from_slice(alloc, value)?,
+            Word::Hash => self.hash = found(HASHES, value)?,
+            Word::Absent => self.is_there = false,
+        }
+        Ok(())
+    }
+
     /// Takes what a cell says of the index. Whether it is such a cell.
     pub fn set(&mut self, alloc: Global, word: &[u8], value: &[u8]) -> Result<bool, Fail> {
-        let (front, rest) = parted(value);
-        if word == b"entry".as_slice() {
-            self.add_lettered(front, rest)?;
-        } else if word == b"given".as_slice() {
-            self.add_given(front, rest)?;
-        } else if word == b"version".as_slice() {
-            self.version = number_of(value)?;
-        } else if word == b"plain".as_slice() {
-            self.add_many(alloc, PLAIN, &HI, number_of(value)?)?;
-        } else if word == b"more".as_slice() {
-            self.add_many(alloc, PLAIN, &named_by(front)?, number_of(rest)?)?;
-        } else if word == b"gitlinks".as_slice() {
-            self.add_many(alloc, GITLINK, &[0; 20], number_of(value)?)?;
-        } else if word == b"tail".as_slice() {
-            self.tail = Vec::from_slice(alloc, value)?;
-        } else if word == b"hash".as_slice() {
-            self.hash = hash_of(value)?;
-        } else if word == b"absent".as_slice() {
-            self.is_there = false;
-        } else {
-            return Ok(false);
+        match meant(WORDS, word) {
+            Some(word) => {
+                self.take(alloc, word, value)?;
+                Ok(true)
+            }
+            None => Ok(false),
         }
-        Ok(true)
     }
 }

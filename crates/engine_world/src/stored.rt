@@ -1,25 +1,52 @@
 //! The repository of a case but for its index.
 use crate::objects::{HI, OBJECTS, named_by};
-use case_kit::{number_of, parted, unknown};
+use case_kit::{Words, given, meant, number_of, parted, unknown};
 use edge_kit::{MemoryRepo, RepoFail};
 use object_dir::{blob_name, spell_blob};
 use std::alloc::{AllocError, Global};
 use std::test::Fail;
 use std::vec::Vec;
 
+/// What can't be read, but for objects.
+const FAILS: Words<RepoFail> = &[
+    (b"index", RepoFail::Index),
+    (b"config", RepoFail::Config),
+    (b"info", RepoFail::Info),
+    (b"base", RepoFail::Base),
+];
+
 fn read_fail_of(word: &[u8]) -> Result<RepoFail, Fail> {
-    if word == b"index".as_slice() {
-        Ok(RepoFail::Index)
-    } else if word == b"config".as_slice() {
-        Ok(RepoFail::Config)
-    } else if word == b"info".as_slice() {
-        Ok(RepoFail::Info)
-    } else if word == b"base".as_slice() {
-        Ok(RepoFail::Base)
-    } else {
-        Ok(RepoFail::Object(named_by(word)?))
+    match meant(FAILS, word) {
+        Some(fail) => Ok(fail),
+        None => Ok(RepoFail::Object(named_by(word)?)),
     }
 }
+
+/// What a cell says of the repository.
+#[derive(Clone, Copy)]
+enum Word {
+    Object,
+    Bytes,
+    Nuls,
+    Letters,
+    Config,
+    Info,
+    Xdg,
+    ReadFails,
+    Memory,
+}
+
+const WORDS: Words<Word> = &[
+    (b"object", Word::Object),
+    (b"bytes", Word::Bytes),
+    (b"nuls", Word::Nuls),
+    (b"letters", Word::Letters),
+    (b"config", Word::Config),
+    (b"info", Word::Info),
+    (b"xdg", Word::Xdg),
+    (b"read-fails", Word::ReadFails),
+    (b"memory", Word::Memory),
+];
 
 /// A text, so many times as the number before it says.
 fn repeated(alloc: Global, value: &[u8]) -> Result<Vec<u8>, Fail> {
@@ -121,31 +148,36 @@ impl RepoCase {
         Ok(())
     }
 
+    /// Appends a byte to what is stored, so many times as the digits say.
+    fn store_many(&mut self, alloc: Global, byte: u8, digits: &[u8]) -> Result<(), Fail> {
+        let bytes = vec![in alloc; byte; number_of(digits)? as usize]?;
+        given(self.stored.extend_from_slice(&bytes))
+    }
+
+    /// Takes what a cell says of the repository.
+    fn take(&mut self, alloc: Global, word: Word, value: &[u8]) -> Result<(), Fail> {
+        match word {
+            Word::Object => self.object = named_by(value)?,
+            Word::Bytes => self.stored = Vec::from_slice(alloc, value)?,
+            Word::Nuls => self.store_many(alloc, 0, value)?,
+            Word::Letters => self.store_many(alloc, b'a', value)?,
+            Word::Config => self.config = Some(Vec::from_slice(alloc, value)?),
+            Word::Info => self.info = Some(Vec::from_slice(alloc, value)?),
+            Word::Xdg => self.base = Some(repeated(alloc, value)?),
+            Word::ReadFails => self.fails.push(read_fail_of(value)?)?,
+            Word::Memory => self.set_memory(value)?,
+        }
+        Ok(())
+    }
+
     /// Takes what a cell says of the repository. Whether it is such a cell.
     pub fn set(&mut self, alloc: Global, word: &[u8], value: &[u8]) -> Result<bool, Fail> {
-        if word == b"object".as_slice() {
-            self.object = named_by(value)?;
-        } else if word == b"bytes".as_slice() {
-            self.stored = Vec::from_slice(alloc, value)?;
-        } else if word == b"nuls".as_slice() {
-            let nuls = vec![in alloc; 0u8; number_of(value)? as usize]?;
-            self.stored.extend_from_slice(&nuls)?;
-        } else if word == b"letters".as_slice() {
-            let letters = vec![in alloc; b'a'; number_of(value)? as usize]?;
-            self.stored.extend_from_slice(&letters)?;
-        } else if word == b"config".as_slice() {
-            self.config = Some(Vec::from_slice(alloc, value)?);
-        } else if word == b"info".as_slice() {
-            self.info = Some(Vec::from_slice(alloc, value)?);
-        } else if word == b"xdg".as_slice() {
-            self.base = Some(repeated(alloc, value)?);
-        } else if word == b"read-fails".as_slice() {
-            self.fails.push(read_fail_of(value)?)?;
-        } else if word == b"memory".as_slice() {
-            self.set_memory(value)?;
-        } else {
-            return Ok(false);
+        match meant(WORDS, word) {
+            Some(word) => {
+                self.take(alloc, word, value)?;
+                Ok(true)
+            }
+            None => Ok(false),
         }
-        Ok(true)
     }
 }

@@ -1,17 +1,14 @@
-//! What a run is made over, and the run.
+//! What a run is made over.
 use crate::cases::Case;
 use crate::out_of_memory::OutOfMemoryRepo;
 use byte_path::{Bytes, Items};
 use case_kit::unknown;
 use checkout_core::Event;
-use checkout_engine::run;
 use edge_kit::{DriverScript, MemorySink, MemorySpawner, MemoryTree};
 use one_shot::{MemoryOnceMaker, OnceSpawner};
 use rehearsal::{Rehearsed, rehearse};
 use std::alloc::Global;
-use std::sync::Wait;
 use std::test::Fail;
-use std::thread::Threads;
 use std::vec::Vec;
 
 /// What a run is made over.
@@ -67,19 +64,4 @@ pub fn world_of(alloc: Global, case: &mut Case) -> Result<World, Fail> {
         out: MemorySink::new(alloc, case.sink_fails),
         history,
     })
-}
-
-/// Runs a case. It gives the status.
-pub fn play<H: Threads + Wait + Sync>(rt: &H, alloc: Global, case: &Case, world: &mut World) -> u8 {
-    run(
-        rt,
-        alloc,
-        &case.words,
-        &mut world.repo,
-        &mut world.tree,
-        &mut world.spawner,
-        &case.gate,
-        &mut world.out,
-        &mut world.history,
-    )
 }

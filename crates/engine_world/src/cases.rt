@@ -7,8 +7,8 @@
 //! - `file`: the letter of its kind, its path, and what its object holds;
 //! - `given`: the same letters, and the bytes of the entry from its flags on;
 //! - `version`: that of the index. Without it, it is 3 if the kind of an entry asks for it, and else 2;
-//! - `plain`: so many plain files of the object `HI`, `gitlinks`: so many gitlinks, and `more`: the letter of an object,
-//!   and how many plain files have it. The path of each is `p` and its number among the entries, behind 10000;
+//! - `plain`: so many plain files of the object `HI`, `gitlinks`: so many gitlinks, and `more`: the letter of an
+//!   object, and how many plain files have it. The path of each is `p` and its number among the entries, behind 10000;
 //! - `tail`: the extensions of the index, and `hash`: its hash, if it has one;
 //! - `absent`: there is no index;
 //! - `object`: the letter of another name for the object `HI`, `bytes`: its bytes, and `nuls` or `letters`: how many
@@ -22,9 +22,9 @@
 //! - `leaf`: which call on a leaf fails, and its path, and `sink`: the write that fails;
 //! - `full`: the worktree isn't empty, and `unchecked`: it can't tell;
 //! - `driver`: a driver's command, and what it writes in its only session;
-//! - the starts of the driver `lfs`, in order: `gives`: one in which it writes this, `fails`: one that fails, `piece`: a
-//!   read of those that follow gives at most so many bytes, and `cut`: the first `send` or the first `read` of the last
-//!   one fails;
+//! - the starts of the driver `lfs`, in order: `gives`: one in which it writes this, `fails`: one that fails, `piece`:
+//!   a read of those that follow gives at most so many bytes, and `cut`: the first `send` or the first `read` of the
+//!   last one fails;
 //! - single runs: `single`: a command, `reads`: its input, `writes`: its output, and `broken`: it ends badly;
 //! - `meet`: a path and a point, where the actor that has claimed path 0 is met, and `hold`: the `odd` or the `even`
 //!   actors are held.
@@ -32,9 +32,8 @@ use crate::gate::Watch;
 use crate::index::IndexCase;
 use crate::scripts::DriverCase;
 use crate::stored::RepoCase;
-use crate::work::asks;
 use byte_path::Bytes;
-use case_kit::{Cell, number_of, parted, push_all, unknown};
+use case_kit::{Cell, Words, found, number_of, parted, push_all, unknown};
 use edge_kit::{LeafCall, Point};
 use std::alloc::Global;
 use std::string::String;
@@ -57,19 +56,18 @@ pub struct Case {
     pub gate: Watch,
 }
 
+/// Appends each word of a text, parted by spaces.
+fn push_words(alloc: Global, words: &mut Vec<String>, text: &[u8]) -> Result<(), Fail> {
+    for word in text.split(|byte| *byte == b' ') {
+        words.push(String::from_str(alloc, str::from_utf8(word)?)?)?;
+    }
+    Ok(())
+}
+
 /// The words that are parted by spaces.
 pub fn words_of(alloc: Global, text: &[u8]) -> Result<Vec<String>, Fail> {
     let mut words = Vec::new(alloc);
-    let mut word = Vec::new(alloc);
-    for byte in text {
-        if *byte == b' ' {
-            words.push(String::from_str(alloc, str::from_utf8(&word)?)?)?;
-            word.clear();
-        } else {
-            word.push(*byte)?;
-        }
-    }
-    words.push(String::from_str(alloc, str::from_utf8(&word)?)?)?;
+    push_words(alloc, &mut words, text)?;
     Ok(words)
 }
 
@@ -96,42 +94,22 @@ fn no_case(alloc: Global) -> Result<Case, Fail> {
     })
 }
 
-fn leaf_call_of(word: &[u8]) -> Result<LeafCall, Fail> {
-    if word == b"put".as_slice() {
-        Ok(LeafCall::Put)
-    } else if word == b"seal".as_slice() {
-        Ok(LeafCall::Seal)
-    } else if word == b"restart".as_slice() {
-        Ok(LeafCall::Restart)
-    } else if word == b"discard".as_slice() {
-        Ok(LeafCall::Discard)
-    } else {
-        Err(unknown(word))
-    }
-}
+const LEAF_CALLS: Words<LeafCall> = &[
+    (b"put", LeafCall::Put),
+    (b"seal", LeafCall::Seal),
+    (b"restart", LeafCall::Restart),
+    (b"discard", LeafCall::Discard),
+];
+
+const POINTS: Words<Point> = &[(b"claimed", Point::Claimed), (b"replied", Point::Replied)];
+
+/// Whether the odd actors are held, or else the even ones.
+const HELD: Words<bool> = &[(b"odd", true), (b"even", false)];
 
 /// A path, and the point at which it is met.
 fn meeting_of(value: &[u8]) -> Result<(u32, Point), Fail> {
     let (path, word) = parted(value);
-    let path = number_of(path)?;
-    if word == b"claimed".as_slice() {
-        Ok((path, Point::Claimed))
-    } else if word == b"replied".as_slice() {
-        Ok((path, Point::Replied))
-    } else {
-        Err(unknown(word))
-    }
-}
-
-/// Whether the odd actors are held, or else the even ones.
-fn held_of(word: &[u8]) -> Result<bool, Fail> {
-    if word == b"odd".as_slice() {
-        Ok(true)
-    } else if word == b"even".as_slice() {
-        Ok(false)
-    } else {
-        Err(unknown(word))
-    }
+    Ok((number_of(path)?, found(POINTS, word)?))
 }
 
 /// Adds an entry, and its object.
@@ -144,30 +122,62 @@ fn add_file(alloc: Global, case: &mut Case, value: &[u8]) -> Result<(), Fail> {
     case.index.add(*kind, &name, path)
 }
 
+/// Adds a call on a leaf that fails.
+fn add_leaf_fail(alloc: Global, case: &mut Case, value: &[u8]) -> Result<(), Fail> {
+    let (call, path) = parted(value);
+    let call = found(LEAF_CALLS, call)?;
+    case.leaf_fails.push((Bytes::copy_of(alloc, path)?, call))?;
+    Ok(())
+}
+
+/// What a cell says of all else.
+#[derive(Clone, Copy)]
+enum Word {
+    Words,
+    File,
+    Rehearsed,
+    Leaf,
+    Sink,
+    Full,
+    Unchecked,
+    Meet,
+    Hold,
+    /// It asks for more lines of what a run leaves.
+    Asks,
+}
+
+const WORDS: Words<Word> = &[
+    (b"words", Word::Words),
+    (b"file", Word::File),
+    (b"rehearsed", Word::Rehearsed),
+    (b"leaf", Word::Leaf),
+    (b"sink", Word::Sink),
+    (b"full", Word::Full),
+    (b"unchecked", Word::Unchecked),
+    (b"meet", Word::Meet),
+    (b"hold", Word::Hold),
+    (b"below", Word::Asks),
+    (b"closer", Word::Asks),
+    (b"hands", Word::Asks),
+    (b"steps", Word::Asks),
+    (b"notes", Word::Asks),
+    (b"met", Word::Asks),
+    (b"back", Word::Asks),
+];
+
 /// Takes what a cell says of all else.
-fn set_rest(alloc: Global, case: &mut Case, word: &[u8], value: &[u8]) -> Result<(), Fail> {
-    if word == b"words".as_slice() {
-        case.words = engine_words(alloc, value)?;
-    } else if word == b"file".as_slice() {
-        add_file(alloc, case, value)?;
-    } else if word == b"rehearsed".as_slice() {
-        case.rehearsed = Some(number_of(value)?);
-    } else if word == b"leaf".as_slice() {
-        let (call, path) = parted(value);
-        let fail = (Bytes::copy_of(alloc, path)?, leaf_call_of(call)?);
-        case.leaf_fails.push(fail)?;
-    } else if word == b"sink".as_slice() {
-        case.sink_fails = Some(number_of(value)?);
-    } else if word == b"full".as_slice() {
-        case.empty = false;
-    } else if word == b"unchecked".as_slice() {
-        case.check_fails = true;
-    } else if word == b"meet".as_slice() {
-        case.gate.meeting = Some(meeting_of(value)?);
-    } else if word == b"hold".as_slice() {
-        case.gate.held = Some(held_of(value)?);
-    } else {
-        return Err(unknown(word));
+fn set_rest(alloc: Global, case: &mut Case, word: Word, value: &[u8]) -> Result<(), Fail> {
+    match word {
+        Word::Words => case.words = engine_words(alloc, value)?,
+        Word::File => add_file(alloc, case, value)?,
+        Word::Rehearsed => case.rehearsed = Some(number_of(value)?),
+        Word::Leaf => add_leaf_fail(alloc, case, value)?,
+        Word::Sink => case.sink_fails = Some(number_of(value)?),
+        Word::Full => case.empty = false,
+        Word::Unchecked => case.check_fails = true,
+        Word::Meet => case.gate.meeting = Some(meeting_of(value)?),
+        Word::Hold => case.gate.held = Some(found(HELD, value)?),
+        Word::Asks => {}
     }
     Ok(())
 }
@@ -176,24 +186,40 @@ fn set_rest(alloc: Global, case: &mut Case, word: &[u8], value: &[u8]) -> Result
 fn set(alloc: Global, case: &mut Case, cell: &Cell) -> Result<(), Fail> {
     let word = cell.key.as_slice();
     let value = cell.value.as_slice();
-    if asks(word)
-        || case.index.set(alloc, word, value)?
+    if case.index.set(alloc, word, value)?
         || case.repo.set(alloc, word, value)?
         || case.drivers.set(alloc, word, value)?
     {
         return Ok(());
     }
-    set_rest(alloc, case, word, value)
+    set_rest(alloc, case, found(WORDS, word)?, value)
+}
+
+/// Takes what each cell says of a case.
+fn set_all(alloc: Global, case: &mut Case, cells: &[Cell]) -> Result<(), Fail> {
+    for cell in cells {
+        set(alloc, case, cell)?;
+    }
+    Ok(())
+}
+
+/// Takes other words, if there are any.
+fn set_words(alloc: Global, case: &mut Case, words: &[u8]) -> Result<(), Fail> {
+    if !words.is_empty() {
+        case.words = engine_words(alloc, words)?;
+    }
+    Ok(())
+}
+
+/// Takes what the cells say, and these words.
+fn fill(alloc: Global, case: &mut Case, cells: &[Cell], words: &[u8]) -> Result<(), Fail> {
+    set_all(alloc, case, cells)?;
+    set_words(alloc, case, words)
 }
 
 /// The case of these cells, with these words, if there are any. What asks for lines says nothing of it.
 pub fn case_of(alloc: Global, cells: &[Cell], words: &[u8]) -> Result<Case, Fail> {
     let mut case = no_case(alloc)?;
-    for cell in cells {
-        set(alloc, &mut case, cell)?;
-    }
-    if !words.is_empty() {
-        case.words = engine_words(alloc, words)?;
-    }
+    fill(alloc, &mut case, cells, words)?;
     Ok(case)
 }
