@@ -1,4 +1,2 @@
 mod Below
-mod Pairing
 pub mod Places
-mod Working

@@ -1,3 +1,1 @@
 pub mod Drivers
-pub mod Pairs
-pub mod Pools

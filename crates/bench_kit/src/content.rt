@@ -8,7 +8,8 @@ const SIZE: usize = 1_000_000;
 
 /// What lines are cut from.
 const SOURCE: &[u8] =
-    b"    let found = entries.iter().find(|entry| entry.path == wanted).map(|entry| entry.stage); return table.insert(name, Row { width: 4, height: 2, label: \"north\" });";
+    b"    let found = entries.iter().find(|entry| entry.path == wanted).map(|entry| entry.stage); \
+        return table.insert(name, Row { width: 4, height: 2, label: \"north\" });";
 
 /// Words whose characters take 1 to 4 bytes.
 const WORDS: [&str; 8] = [

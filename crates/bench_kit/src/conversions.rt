@@ -2,8 +2,8 @@
 //! checkout makes of the content is converted and copied, and the bytes told are the content's.
 //!
 //! Each line has fields with a tab between: a content, its bytes, a conversion, the bytes that come out and the one in
-//! their middle. With times these follow: the nanoseconds of the conversion and of the copy, the least of many turns, and
-//! a sum over what was read of the results.
+//! their middle. With times these follow: the nanoseconds of the conversion and of the copy, the least of many turns,
+//! and a sum over what was read of the results.
 use crate::content::Content;
 use crate::conversion::{Work, beside_copy};
 use back_convert::Action;
@@ -75,24 +75,45 @@ const ROWS: [(&str, Content, &str, Work); 22] = [
     ),
 ];
 
+/// Tells what a conversion makes of this content, with times if asked for.
+fn tell_work<R: Clock + Print + AllocGlobal>(
+    rt: &R,
+    work: Work,
+    content: &[u8],
+    timed: bool,
+) -> io::Result<()> {
+    let seen = work.seen(rt.alloc(), content)?;
+    let after = seen.length;
+    let middle = seen.middle;
+    print!(rt; "{after}\t{middle}")?;
+    if timed {
+        let (least, copy) = beside_copy(rt, work, content)?;
+        let sum = least.middles.wrapping_add(copy.middles);
+        let took = least.nanoseconds;
+        let beside = copy.nanoseconds;
+        print!(rt; "\t{took}\t{beside}\t{sum}")?;
+    }
+    println!(rt)
+}
+
+/// Tells of a row's conversion, with times if asked for.
+fn tell_row<R: Clock + Print + AllocGlobal>(
+    rt: &R,
+    row: (&str, Content, &str, Work),
+    timed: bool,
+) -> io::Result<()> {
+    let (about, content, name, work) = row;
+    let content = content.bytes(rt.alloc())?;
+    let before = content.len();
+    print!(rt; "{about}\t{before}\t{name}\t")?;
+    let content = work.source(rt.alloc(), content)?;
+    tell_work(rt, work, &content, timed)
+}
+
 /// Tells of each conversion, with times if asked for.
 pub fn tell<R: Clock + Print + AllocGlobal>(rt: &R, timed: bool) -> io::Result<()> {
-    for (about, content, name, work) in ROWS {
-        let content = content.bytes(rt.alloc())?;
-        let before = content.len();
-        let content = work.source(rt.alloc(), content)?;
-        let seen = work.seen(rt.alloc(), &content)?;
-        let after = seen.length;
-        let middle = seen.middle;
-        print!(rt; "{about}\t{before}\t{name}\t{after}\t{middle}")?;
-        if timed {
-            let (least, copy) = beside_copy(rt, work, &content)?;
-            let sum = least.middles.wrapping_add(copy.middles);
-            let took = least.nanoseconds;
-            let beside = copy.nanoseconds;
-            print!(rt; "\t{took}\t{beside}\t{sum}")?;
-        }
-        println!(rt)?;
+    for row in ROWS {
+        tell_row(rt, row, timed)?;
     }
     Ok(())
 }

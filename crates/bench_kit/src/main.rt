@@ -14,12 +14,10 @@
 //! Without a word each is told of on a small input, and the streams are those of the file `streams`.
 #![tactic(auto)]
 
-mod book;
 mod calls;
 mod content;
 mod conversion;
 mod conversions;
-mod marks;
 mod replay;
 mod sessions;
 mod streams;
@@ -65,7 +63,7 @@ fn tell_all<R: Clock + Print + Threads + Wait + Sync + AllocGlobal>(
 ) -> io::Result<()> {
     replay::tell(rt, 1000, false)?;
     turns::tell_small(rt)?;
-    book::tell_small(rt)?;
+    bench_books::tell_small(rt)?;
     sessions::tell_small(rt)?;
     conversions::tell(rt, false)?;
     streams::tell(host, 2, "streams")?;
@@ -88,7 +86,7 @@ fn tell<R: Clock + Print + Threads + Wait + Sync + AllocGlobal>(
     } else if name == "turns" {
         turns::tell(rt, first, second, true)
     } else if name == "book" {
-        book::tell_large(rt, first)
+        bench_books::tell_large(rt, first)
     } else if name == "sessions" {
         sessions::tell(rt, first, second, true)
     } else if name == "conversions" {
@@ -96,7 +94,7 @@ fn tell<R: Clock + Print + Threads + Wait + Sync + AllocGlobal>(
     } else if name == "streams" {
         streams::tell(host, first, last_of(words))
     } else if name == "histories" {
-        book::tell_small(rt)
+        bench_books::tell_small(rt)
     } else if name == "calls" {
         calls::tell(host)
     } else {

@@ -122,18 +122,19 @@ fn events(alloc: Global, paths: u32) -> Result<Vec<Event>, AllocError> {
     Ok(events)
 }
 
-/// Replays a run of so many paths, at most a million. The time told is that of the replay alone.
-pub fn tell<R: Clock + Print + AllocGlobal>(rt: &R, paths: u32, timed: bool) -> io::Result<()> {
-    let paths = paths.min(1_000_000);
-    let starts = starts(rt.alloc(), paths)?;
-    let events = events(rt.alloc(), paths)?;
-    let mut state = State::start(rt.alloc(), starts, 4, 2)?;
+/// Replays these events, and tells how many there are and what they leave. The time told is that of the replay alone.
+fn tell_replay<R: Clock + Print>(
+    rt: &R,
+    state: &mut State,
+    events: &[Event],
+    timed: bool,
+) -> io::Result<()> {
     let open = state.unclosed();
     let begun = Instant::now(rt)?;
     if events.len() > u32::MAX as usize {
         return Ok(());
     }
-    let told = replay(&mut state, events.as_slice());
+    let told = replay(state, events);
     let micros = begun.elapsed(rt)?.as_micros();
     let taken = events.len();
     let left = state.unclosed();
@@ -142,4 +143,13 @@ pub fn tell<R: Clock + Print + AllocGlobal>(rt: &R, paths: u32, timed: bool) -> 
         println!(rt; "{micros} microseconds")?;
     }
     Ok(())
+}
+
+/// Replays a run of so many paths, at most a million, and tells of it.
+pub fn tell<R: Clock + Print + AllocGlobal>(rt: &R, paths: u32, timed: bool) -> io::Result<()> {
+    let paths = paths.min(1_000_000);
+    let starts = starts(rt.alloc(), paths)?;
+    let events = events(rt.alloc(), paths)?;
+    let mut state = State::start(rt.alloc(), starts, 4, 2)?;
+    tell_replay(rt, &mut state, events.as_slice(), timed)
 }

@@ -22,15 +22,26 @@ fn converse(
     let Begun::Live(mut session) = Session::begin(alloc, driver) else {
         return Err(AllocError);
     };
+    let came = ask_for(alloc, &mut session, content, count);
+    let _ = session.shut();
+    came
+}
+
+/// How many of `count` exchanges of a session gave a content, and how many bytes these contents had in all.
+fn ask_for(
+    alloc: Global,
+    session: &mut Session<Driver>,
+    content: &[u8],
+    count: u32,
+) -> Result<(u32, u64), AllocError> {
     let (mut good, mut bytes) = (0, 0);
     for _ in 0..count {
         let mut page = Page::with_room(alloc, content.len())?;
-        if exchange(&mut session, content, &mut page) && good < u32::MAX {
+        if exchange(session, content, &mut page) && good < u32::MAX {
             good += 1;
         }
         bytes = u64::saturating_add(bytes, page.content.len() as u64);
     }
-    let _ = session.shut();
     Ok((good, bytes))
 }
 
@@ -69,8 +80,7 @@ pub fn tell<R: Clock + Print + AllocGlobal>(
     timed: bool,
 ) -> io::Result<()> {
     let alloc = rt.alloc();
-    let mut content = Vec::new(alloc);
-    content.resize(size as usize, b'c')?;
+    let content = vec![in alloc; b'c'; size as usize]?;
     let driver = Driver::new(hello_of(alloc)?, reply_of(alloc, content.as_slice())?);
     let begun = Instant::now(rt)?;
     let (good, bytes) = converse(alloc, driver, content.as_slice(), count)?;

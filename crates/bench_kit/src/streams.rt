@@ -49,8 +49,8 @@ fn inflate_all(alloc: Global, file: &[u8], out: &mut Vec<u8>) -> io::Result<Seen
     Ok(seen)
 }
 
-/// Inflates all streams of a file so many times, and tells how many there are, the bytes of their contents and a sum over
-/// them, with a tab between.
+/// Inflates all streams of a file so many times, and tells how many there are, the bytes of their contents and a sum
+/// over them, with a tab between.
 pub fn tell(rt: HostRuntime, turns: u32, name: &str) -> io::Result<()> {
     let file = fs::read(&rt, name)?;
     let mut out = Vec::new(rt.alloc());

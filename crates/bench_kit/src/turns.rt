@@ -85,6 +85,17 @@ fn in_order(lines: &[(u32, u32)], number: u32) -> u32 {
     next
 }
 
+/// How many lines a diary has, and how many of its seats have all of theirs in order.
+fn counted(diary: Diary, seats: u32, turns: u32) -> (usize, u32) {
+    let mut whole = 0u32;
+    for number in 0..seats {
+        if in_order(&diary.lines, number) == turns && whole < u32::MAX {
+            whole += 1;
+        }
+    }
+    (diary.lines.len(), whole)
+}
+
 /// Prints what the diary of `seats` seats holds, as a line, and its time if asked for.
 pub fn tell<R: Clock + Print + Threads + Wait + Sync + AllocGlobal>(
     rt: &R,
@@ -94,14 +105,9 @@ pub fn tell<R: Clock + Print + Threads + Wait + Sync + AllocGlobal>(
 ) -> io::Result<()> {
     let begun = Instant::now(rt)?;
     let diary = written(rt, rt.alloc(), seats.max(1), turns)?;
-    let micros = begun.elapsed(rt)?.as_micros();
-    let mut whole = 0u32;
-    for number in 0..seats {
-        if in_order(&diary.lines, number) == turns && whole < u32::MAX {
-            whole += 1;
-        }
-    }
-    let lines = diary.lines.len();
+    let took = begun.elapsed(rt);
+    let (lines, whole) = counted(diary, seats, turns);
+    let micros = took?.as_micros();
     println!(rt; "{seats} seats of {turns} turns: {lines} lines, {whole} seats in order")?;
     if timed {
         println!(rt; "{micros} microseconds")?;

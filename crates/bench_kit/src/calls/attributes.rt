@@ -1,6 +1,6 @@
 // What attributes say of a content.
-use crate::marks::{begin, end};
 use attr_line::AttrState;
+use bench_books::marks::{begin, end};
 use byte_path::Bytes;
 use convert_plan::{Conversion, conversion_of};
 use eol_convert::{AutoCrlf, EolSetting, LineEnds, line_ends_of};
@@ -20,15 +20,18 @@ fn is_whole(conversion: Conversion) -> bool {
         && matches!(conversion.encoding, Some(Encoding::Utf16LeBom))
 }
 
-pub fn make_calls<R: Print + AllocGlobal>(rt: &R) -> io::Result<()> {
-    let text = value(rt.alloc(), b"auto")?;
-    let eol = value(rt.alloc(), b"crlf")?;
-    let encoding = value(rt.alloc(), b"utf-16le-bom")?;
+/// What these attributes say of line ends and of the encoding.
+fn make_single<R: Print>(
+    rt: &R,
+    text: &AttrState,
+    eol: &AttrState,
+    encoding: &AttrState,
+) -> io::Result<()> {
     begin(rt, "line_ends_of")?;
     let ends = line_ends_of(
-        &text,
+        text,
         &AttrState::Unset,
-        &eol,
+        eol,
         AutoCrlf::Input,
         EolSetting::Lf,
     );
@@ -36,8 +39,15 @@ pub fn make_calls<R: Print + AllocGlobal>(rt: &R) -> io::Result<()> {
     begin(rt, "encoding_of")?;
     end(
         rt,
-        matches!(encoding_of(&encoding), Ok(Some(Encoding::Utf16LeBom))),
-    )?;
+        matches!(encoding_of(encoding), Ok(Some(Encoding::Utf16LeBom))),
+    )
+}
+
+pub fn make_calls<R: Print + AllocGlobal>(rt: &R) -> io::Result<()> {
+    let text = value(rt.alloc(), b"auto")?;
+    let eol = value(rt.alloc(), b"crlf")?;
+    let encoding = value(rt.alloc(), b"utf-16le-bom")?;
+    make_single(rt, &text, &eol, &encoding)?;
     let states = [text, AttrState::Unspecified, eol, AttrState::Set, encoding];
     begin(rt, "conversion_of")?;
     let conversion = conversion_of(&states, AutoCrlf::False, EolSetting::Lf);

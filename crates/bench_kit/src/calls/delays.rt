@@ -2,7 +2,7 @@
 ghost use Rattle.std.specs.Prelude.{◌≡◌, IfOk, Some, slice_get};
 ghost use Rattle.delay_table.specs.declared.place.Place.TheVariants.{Idle};
 
-use crate::marks::{begin, end};
+use bench_books::marks::{begin, end};
 use byte_path::Bytes;
 use delay_table::DelayTable;
 use std::alloc::{AllocError, Global};
@@ -21,8 +21,10 @@ fn table(alloc: Global) -> Result<DelayTable, AllocError>
     Ok(table)
 }
 
-pub fn make_calls<R: Print + AllocGlobal>(rt: &R) -> io::Result<()> {
-    let mut table = table(rt.alloc())?;
+/// Delays the first name, lists the second, and delivers and takes what is there.
+fn make_all<R: Print>(rt: &R, table: &mut DelayTable) -> io::Result<()>
+    requires { slice_get table.old.places 0 ≡ Some Idle }
+{
     begin(rt, "DelayTable::delay")?;
     table.delay(0);
     end(rt, table.listed().is_empty())?;
@@ -37,4 +39,9 @@ pub fn make_calls<R: Print + AllocGlobal>(rt: &R) -> io::Result<()> {
     begin(rt, "DelayTable::rest")?;
     let left = table.rest();
     end(rt, left == Some(0) && table.rest().is_none())
+}
+
+pub fn make_calls<R: Print + AllocGlobal>(rt: &R) -> io::Result<()> {
+    let mut table = table(rt.alloc())?;
+    make_all(rt, &mut table)
 }

@@ -1,5 +1,5 @@
 // What a driver says: its packets, their keys and values, and its statuses.
-use crate::marks::{begin, end};
+use bench_books::marks::{begin, end};
 use filter_words::{Status, key_value, read_status};
 use pkt_line::{Next, PktReader, push_line};
 use std::io;
@@ -16,8 +16,8 @@ fn make_line<R: Print + AllocGlobal>(rt: &R) -> io::Result<()> {
     )
 }
 
-pub fn make_calls<R: Print + AllocGlobal>(rt: &R) -> io::Result<()> {
-    let mut reader = PktReader::reserve(rt.alloc())?;
+/// Reads a line and the flush behind it.
+fn read_line<R: Print>(rt: &R, reader: &mut PktReader) -> io::Result<()> {
     begin(rt, "PktReader::feed")?;
     end(rt, reader.feed(b"0013status=success\n0000") == 23)?;
     begin(rt, "PktReader::next")?;
@@ -25,7 +25,12 @@ pub fn make_calls<R: Print + AllocGlobal>(rt: &R) -> io::Result<()> {
     end(
         rt,
         is_line && reader.next() == Ok(Next::Flush) && reader.next() == Ok(Next::NeedMore),
-    )?;
+    )
+}
+
+pub fn make_calls<R: Print + AllocGlobal>(rt: &R) -> io::Result<()> {
+    let mut reader = PktReader::reserve(rt.alloc())?;
+    read_line(rt, &mut reader)?;
     begin(rt, "key_value")?;
     end(
         rt,

@@ -1,5 +1,5 @@
 // The core: a path of the pool, and a path that its driver delays and then gives.
-use crate::marks::{begin, end};
+use bench_books::marks::{begin, end};
 use checkout_core::{Event, Own, Start, State, Verdict, step};
 use filter_words::{Caps, ListReply, Reply};
 use std::alloc::{AllocError, Global};
@@ -69,16 +69,21 @@ fn steps(state: &mut State) -> bool {
     step(state, Event::Claim { path: 0, actor: 0 }).is_err()
 }
 
-pub fn make_calls<R: Print + AllocGlobal>(rt: &R) -> io::Result<()> {
-    let mut state = begun(rt.alloc())?;
+/// Takes the events, and looks at what is left before and after.
+fn make_all<R: Print>(rt: &R, state: &mut State) -> io::Result<()> {
     begin(rt, "State::unclosed")?;
     end(rt, state.unclosed() == 2)?;
     begin(rt, "step")?;
-    end(rt, steps(&mut state))?;
+    end(rt, steps(state))?;
     begin(rt, "State::verdict")?;
     let verdict = state.verdict(1);
     end(
         rt,
         matches!(verdict, Some(Verdict::Written { unencoded: false })),
     )
+}
+
+pub fn make_calls<R: Print + AllocGlobal>(rt: &R) -> io::Result<()> {
+    let mut state = begun(rt.alloc())?;
+    make_all(rt, &mut state)
 }

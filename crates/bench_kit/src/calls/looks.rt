@@ -1,5 +1,5 @@
 // A look into a folder.
-use crate::marks::{begin, end};
+use bench_books::marks::{begin, end};
 use edge_adapters::holds_nothing;
 use std::io;
 

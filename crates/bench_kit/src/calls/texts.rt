@@ -1,5 +1,5 @@
 // Paths, numbers, patterns and names of objects.
-use crate::marks::{begin, end};
+use bench_books::marks::{begin, end};
 use byte_path::{PathFault, check_path, read_decimal};
 use object_dir::blob_name;
 use std::io;
@@ -7,10 +7,8 @@ use std::io::Print;
 use wild_match::matches;
 
 /// The name of the object with the content `hello` and a line feed, as `git hash-object` prints it.
-const HELLO: [u8; 20] = [
-    0xce, 0x01, 0x36, 0x25, 0x03, 0x0b, 0xa8, 0xdb, 0xa9, 0x06, 0xf7, 0x56, 0x96, 0x7f, 0x9e, 0x9c,
-    0xa3, 0x94, 0x46, 0x4a,
-];
+const HELLO: [u8; 20] =
+    *b"\xce\x01\x36\x25\x03\x0b\xa8\xdb\xa9\x06\xf7\x56\x96\x7f\x9e\x9c\xa3\x94\x46\x4a";
 
 pub fn make_calls<R: Print>(rt: &R) -> io::Result<()> {
     begin(rt, "check_path")?;
