@@ -1,18 +1,16 @@
 //! A check-in into a git folder.
-use crate::assumed::hold_assumed;
-use crate::checkin_index::{CheckedIn, index_after, put_made};
-use crate::ends::{end_run, refuse_repository, say, show_notes};
+use crate::ends::{end_run, end_with, show_notes};
 use crate::engine_words::checkin_words;
-use crate::kept_notes::show_kept;
-use crate::own_index::{links_of, refuse_guarded};
-use crate::update_index::index_lock;
-use crate::worktree::{refused_tree, tree_of};
 use checkin_edge::{FolderFiles, FolderKeep, HeldEntry, ObjectForm};
 use checkout_engine::ExitStatus;
 use edge_adapters::ProcessSpawner;
 use git_edge::GitRepo;
-use program_kit::{check_in, show_refused_path};
+use program_kit::{EndedCheckin, check_in, show_refused_path};
 use report_forms::ReportForm;
+use siuwbren_index::{
+    CheckedIn, hold_assumed, index_lock, index_of_checkin, links_of, put_made, refuse_guarded,
+    refuse_repository, refused_tree, say, show_kept, tree_of,
+};
 use siuwbren_words::CheckinWords;
 use std::alloc::AllocError;
 use std::sync::Wait;
@@ -64,6 +62,12 @@ fn spawner_of(rt: HostRuntime, repo: &GitRepo) -> Result<ProcessSpawner, AllocEr
     ProcessSpawner::in_place(rt, repo.driver_place()?)
 }
 
+/// The index of a check-in that has ended, if it is kept in memory, with what is told of its files.
+fn made_index(rt: HostRuntime, ended: &EndedCheckin) -> Result<Option<Vec<u8>>, AllocError> {
+    let told = ended.stats(rt.alloc())?;
+    index_of_checkin(rt.alloc(), ended.status(), ended.index(), told.as_slice())
+}
+
 /// Checks in the files of a folder into a repository that is open.
 fn check_in_with<H: Threads + Wait + Sync>(
     rt: HostRuntime,
@@ -79,7 +83,7 @@ fn check_in_with<H: Threads + Wait + Sync>(
     let spawner = spawner_of(rt, repo)?;
     let ended = check_in(rt, threads, words.as_slice(), repo, spawner, files, keep)?;
     ended.show_notes(rt);
-    let index = index_after(rt, &ended)?;
+    let index = made_index(rt, &ended)?;
     Ok(CheckedIn {
         status: ended.end(),
         index,
@@ -130,7 +134,7 @@ fn check_in_folder<H: Threads + Wait + Sync>(
     tree: &str,
 ) -> Result<CheckedIn, AllocError> {
     if let Some(status) = refuse_guarded(rt, repo, ReportForm::Text)? {
-        return Ok(CheckedIn::refused(status));
+        return Ok(CheckedIn::refused(end_with(rt, status.number())));
     }
     if let Some(status) = refused_tree(rt, repo, tree, asked)? {
         return Ok(CheckedIn::refused(status.number()));

@@ -1,10 +1,7 @@
 //! A checkout from a git folder.
-use crate::channel::sink_of;
-use crate::ends::{end_run, refuse_repository, show_notes};
+use crate::ends::{end_run, end_with, show_notes};
 use crate::engine_words::checkout_words;
 use crate::journal::journal_file;
-use crate::own_index::refuse_guarded;
-use crate::update_index::{index_lock, put_index, updated_index};
 use checkout_core::Event;
 use checkout_engine::{ExitStatus, run};
 use edge_adapters::ProcessSpawner;
@@ -15,6 +12,9 @@ use one_shot::OnceSpawner;
 use program_kit::{
     CountingTree, EndedCheckout, JournalFile, Progress, has_terminal, show_drivers, show_errors,
     show_refused_path,
+};
+use siuwbren_index::{
+    index_lock, put_index, refuse_guarded, refuse_repository, sink_of, updated_index,
 };
 use siuwbren_words::{CheckoutWords, ProgressChoice};
 use std::alloc::AllocError;
@@ -215,7 +215,7 @@ fn check_out_words<H: Threads + Wait + Sync>(
         Err(status) => return Ok(status),
     };
     if let Some(status) = refuse_guarded(rt, repo, asked.form)? {
-        return Ok(status);
+        return Ok(end_with(rt, status.number()));
     }
     let mut beside = Beside {
         journal: None,

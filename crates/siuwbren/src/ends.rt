@@ -1,7 +1,8 @@
 //! How the program ends, and what it says of that.
 use checkout_engine::ExitStatus;
-use git_edge::{GitFault, GitRepo};
+use git_edge::GitRepo;
 use program_kit::message_of;
+use siuwbren_index::refuse_repository;
 
 /// Says what a status of the engine means.
 pub fn end_with(rt: HostRuntime, status: u8) -> u8 {
@@ -19,11 +20,6 @@ pub fn end_run(rt: HostRuntime, status: u8, repo: &GitRepo) -> u8 {
     }
 }
 
-/// Writes a line on standard error.
-pub fn say(rt: HostRuntime, line: &str) {
-    let _ = eprintln!(rt; "{line}");
-}
-
 /// Gives the help or the version that the words ask for.
 pub fn give(rt: HostRuntime, text: &str) -> u8 {
     match print!(rt; "{text}") {
@@ -36,26 +32,6 @@ pub fn give(rt: HostRuntime, text: &str) -> u8 {
 pub fn refuse_words(rt: HostRuntime, text: &str) -> u8 {
     let _ = eprint!(rt; "{text}");
     ExitStatus::Usage.number()
-}
-
-/// The status of a repository that can't be used.
-fn status_of(fault: &GitFault) -> ExitStatus {
-    match fault {
-        GitFault::NoGit(_) | GitFault::TooOld | GitFault::NoScratch(_) => ExitStatus::ReadFault,
-        GitFault::NoMemory => ExitStatus::OutOfMemory,
-        GitFault::Refused(_)
-        | GitFault::NoRevision(_)
-        | GitFault::ObjectFormat(_)
-        | GitFault::BadPath
-        | GitFault::Locked(_)
-        | GitFault::NoLock(..) => ExitStatus::Refused,
-    }
-}
-
-/// Says why a repository can't be used.
-pub fn refuse_repository(rt: HostRuntime, fault: &GitFault) -> u8 {
-    let _ = eprintln!(rt; "error: {fault}");
-    status_of(fault).number()
 }
 
 /// Says what git would do otherwise.

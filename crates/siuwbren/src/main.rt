@@ -6,28 +6,20 @@
 //! repository, why files weren't written, what a driver wrote in place of packets, and what git would do otherwise.
 #![tactic(auto)]
 
-mod assumed;
-mod channel;
-mod checkin;
-mod checkin_index;
+mod checking_in;
 mod checkout;
 mod ends;
 mod engine_words;
-mod guarded;
 mod journal;
-mod kept_notes;
-mod own_index;
 mod plan;
-mod rehearsed;
-mod update_index;
-mod worktree;
+mod rehearsing;
 
-use crate::checkin::check_in_tree;
+use crate::checking_in::check_in_tree;
 use crate::checkout::check_out;
 use crate::ends::{end_with, give, refuse_words};
 use crate::journal::audit;
 use crate::plan::show_plan;
-use crate::rehearsed::rehearse;
+use crate::rehearsing::rehearse;
 use checkout_engine::ExitStatus;
 use edge_adapters::hold_standard;
 use program_kit::words_of;

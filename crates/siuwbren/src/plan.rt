@@ -1,10 +1,9 @@
 //! The plan of a checkout.
-use crate::channel::sink_of;
-use crate::ends::{end_run, refuse_repository};
-use crate::own_index::refuse_guarded;
+use crate::ends::{end_run, end_with};
 use checkout_engine::{ExitStatus, plan_text};
 use git_edge::GitRepo;
 use program_kit::show_refused_path;
+use siuwbren_index::{refuse_guarded, refuse_repository, sink_of};
 use siuwbren_words::PlanWords;
 use std::alloc::AllocError;
 
@@ -15,7 +14,7 @@ fn show_plan_of(
     repo: &mut GitRepo,
 ) -> Result<u8, AllocError> {
     if let Some(status) = refuse_guarded(rt, repo, asked.form)? {
-        return Ok(status);
+        return Ok(end_with(rt, status.number()));
     }
     let mut out = sink_of(rt, asked.form);
     let status = plan_text(rt.alloc(), repo, &mut out);

@@ -1,5 +1,5 @@
 //! The folder that is checked in, looked at before anything is kept: a wrong one would make all its paths deleted ones.
-use crate::ends::say;
+use crate::faults::say;
 use crate::own_index::index_of;
 use checkout_engine::ExitStatus;
 use git_edge::GitRepo;

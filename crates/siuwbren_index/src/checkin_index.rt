@@ -1,10 +1,10 @@
 //! The index that a check-in puts into the place of the repository's own one, with what is told of its files.
-use crate::ends::say;
+use crate::faults::say;
 use crate::update_index::{put_index, with_stats};
 use checkout_engine::ExitStatus;
 use git_edge::IndexLock;
-use program_kit::EndedCheckin;
-use std::alloc::AllocError;
+use git_index::Stat;
+use std::alloc::{AllocError, Global};
 
 /// What is left of a check-in that has ended.
 #[derive(Drop)]
@@ -32,18 +32,22 @@ fn is_done(status: u8) -> bool {
     )
 }
 
-/// The index of a check-in with what is told of its files, if each path was looked at and the index is kept in memory.
-pub fn index_after(rt: HostRuntime, ended: &EndedCheckin) -> Result<Option<Vec<u8>>, AllocError> {
-    match ended.index() {
-        Some(index) if is_done(ended.status()) => {
-            with_stats(rt.alloc(), index, ended.stats(rt.alloc())?.as_slice())
-        }
+/// The index that a check-in with this status made, if it is kept in memory and each path was looked at, with what is
+/// told of its files.
+pub fn index_of_checkin(
+    alloc: Global,
+    status: u8,
+    made: Option<&[u8]>,
+    told: &[(&[u8], Stat)],
+) -> Result<Option<Vec<u8>>, AllocError> {
+    match made {
+        Some(index) if is_done(status) => with_stats(alloc, index, told),
         _ => Ok(None),
     }
 }
 
-/// Puts the index of a check-in into the place of the repository's own, if that is locked for it, and gives the status of
-/// the check-in then.
+/// Puts the index of a check-in into the place of the repository's own, if that is locked for it, and gives the status
+/// of the check-in then.
 pub fn put_made(
     rt: HostRuntime,
     lock: Option<IndexLock>,

@@ -1,6 +1,6 @@
-//! What standard error says of a check-in beside its report: entries that stay though git would change them, and parts of
-//! the index that the new one is without.
-use crate::ends::say;
+//! What standard error says of a check-in beside its report: entries that stay though git would change them, and parts
+//! of the index that the new one is without.
+use crate::faults::say;
 use crate::own_index::{MOST_INDEX, index_of};
 use byte_path::quote_path;
 use checkin_edge::RawIndex;

@@ -1,6 +1,6 @@
 //! The repository's index, and the refusal of one that other file systems would let change git's own folder.
 use crate::channel::sink_of;
-use crate::ends::{end_with, say};
+use crate::faults::say;
 use crate::guarded::is_guarded;
 use byte_path::{Bytes, quote_path};
 use checkin_edge::IndexLinks;
@@ -87,11 +87,10 @@ fn refuse_entries(
     entries: &[Entry],
     guards: Guards,
     form: ReportForm,
-) -> Result<Option<u8>, AllocError> {
+) -> Result<Option<ExitStatus>, AllocError> {
     for (number, entry) in entries.iter().enumerate() {
         if is_guarded_entry(entry, guards) {
-            let status = refuse(rt, number, entry, form)?;
-            return Ok(Some(end_with(rt, status.number())));
+            return Ok(Some(refuse(rt, number, entry, form)?));
         }
     }
     Ok(None)
@@ -102,12 +101,9 @@ fn refuse_tree(
     rt: HostRuntime,
     repo: &GitRepo,
     form: ReportForm,
-) -> Result<Option<u8>, AllocError> {
+) -> Result<Option<ExitStatus>, AllocError> {
     match repo.tree_refusal()? {
-        Some(line) => {
-            let status = write_refusal(rt, line.as_str(), form)?;
-            Ok(Some(end_with(rt, status.number())))
-        }
+        Some(line) => Ok(Some(write_refusal(rt, line.as_str(), form)?)),
         None => Ok(None),
     }
 }
@@ -118,7 +114,7 @@ pub fn refuse_guarded(
     rt: HostRuntime,
     repo: &mut GitRepo,
     form: ReportForm,
-) -> Result<Option<u8>, AllocError> {
+) -> Result<Option<ExitStatus>, AllocError> {
     let guards = repo.guards();
     match index_of(rt, repo) {
         Some(index) => refuse_entries(rt, index.entries(), guards, form),

@@ -1,5 +1,5 @@
 //! The index that a checkout or a check-in leaves, with what is told of its files, so that git needn't read them.
-use crate::ends::{refuse_repository, say};
+use crate::faults::{refuse_repository, say};
 use crate::own_index::MOST_INDEX;
 use crate::worktree::is_same_folder;
 use checkin_edge::{RawEntry, RawIndex};

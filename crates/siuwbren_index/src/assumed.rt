@@ -47,8 +47,8 @@ fn hold_in(
     Ok(held)
 }
 
-/// Has the repository give its index with skip-worktree at each entry that has assume-valid, so that a check-in keeps it.
-/// The keeper gives these entries their marks back.
+/// Has the repository give its index with skip-worktree at each entry that has assume-valid, so that a check-in keeps
+/// it. The keeper gives these entries their marks back.
 pub fn hold_assumed(rt: HostRuntime, repo: &mut GitRepo) -> Result<Vec<HeldEntry>, AllocError> {
     let (Some(index), Some(spelled)) = (index_of(rt, repo), spelled_index(repo)) else {
         return Ok(Vec::new(rt.alloc()));

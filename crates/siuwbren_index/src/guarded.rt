@@ -1,5 +1,5 @@
-//! Names that other file systems read as git's own: `.git`, and for links `.gitmodules` (git-config(1), core.protectNTFS
-//! and core.protectHFS).
+//! Names that other file systems read as git's own: `.git`, and for links `.gitmodules` (git-config(1),
+//! core.protectNTFS and core.protectHFS).
 use git_edge::Guards;
 
 /// The first letters of the short name that NTFS gives to `.gitmodules` where the usual ones are taken.
@@ -136,8 +136,8 @@ fn has_modules(path: &[u8]) -> bool {
         .any(|part| part.eq_ignore_ascii_case(b".gitmodules"))
 }
 
-/// Whether a part of the path is a name of git's own: for a link `.gitmodules`, and what one of the guarded file systems
-/// reads so.
+/// Whether a part of the path is a name of git's own: for a link `.gitmodules`, and what one of the guarded file
+/// systems reads so.
 pub fn is_guarded(path: &[u8], is_link: bool, guards: Guards) -> bool {
     is_link && has_modules(path)
         || guards.ntfs && has_ntfs_guarded(path, is_link)

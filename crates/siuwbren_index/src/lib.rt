@@ -1,0 +1,25 @@
+//! What `siuwbren` does with the repository's own index, and with the folder of its files.
+//!
+//! It refuses an index that other file systems would let change git's own folder, and a folder that isn't meant. It
+//! keeps entries as they are in a check-in, says what a check-in leaves, and updates the index after a checkout or a
+//! check-in. Standard error says why something is refused.
+#![tactic(auto)]
+
+mod assumed;
+mod channel;
+mod checkin_index;
+mod faults;
+mod guarded;
+mod kept_notes;
+mod own_index;
+mod update_index;
+mod worktree;
+
+pub use assumed::hold_assumed;
+pub use channel::{Channel, sink_of};
+pub use checkin_index::{CheckedIn, index_of_checkin, put_made};
+pub use faults::{refuse_repository, say};
+pub use kept_notes::show_kept;
+pub use own_index::{links_of, refuse_guarded};
+pub use update_index::{index_lock, put_index, updated_index};
+pub use worktree::{refused_tree, tree_of};
