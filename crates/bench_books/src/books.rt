@@ -6,7 +6,7 @@ ghost use Rattle.checkout_book.specs.Sights.{sight, seen};
 use crate::cards::new_card;
 use crate::lists::both;
 use crate::runs::{by_all, by_one_worker};
-use checkout_book::ending::Ended;
+use checkout_book::ended::Ended;
 use checkout_core::Verdict;
 use convert_plan::Card;
 use edge_kit::{Blob, Leaf, MemoryBlob, MemoryLeaf, MemoryRepo, MemoryTree};

@@ -6,20 +6,20 @@
 //! repository, why files weren't written, what a driver wrote in place of packets, and what git would do otherwise.
 #![tactic(auto)]
 
-mod checking_in;
+mod checkin;
 mod checkout;
 mod ends;
 mod engine_words;
 mod journal;
 mod plan;
-mod rehearsing;
+mod rehearsed;
 
-use crate::checking_in::check_in_tree;
+use crate::checkin::check_in_tree;
 use crate::checkout::check_out;
 use crate::ends::{end_with, give, refuse_words};
 use crate::journal::audit;
 use crate::plan::show_plan;
-use crate::rehearsing::rehearse;
+use crate::rehearsed::rehearse;
 use checkout_engine::ExitStatus;
 use edge_adapters::hold_standard;
 use program_kit::words_of;
