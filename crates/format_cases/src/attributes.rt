@@ -1,7 +1,7 @@
 //! The lines of attribute files.
 use crate::answer::text_of;
 use attr_line::{AttrFile, AttrRow, Pair, Skipped, read_attributes};
-use case_kit::{push_all, unknown};
+use case_kit::{Words, found, push_all};
 use std::alloc::{AllocError, Global};
 use std::test::Fail;
 
@@ -51,19 +51,11 @@ fn listed(alloc: Global, file: &AttrFile) -> Result<Vec<u8>, AllocError> {
 }
 
 /// Whether a folder is the top folder.
-fn is_top(folder: &[u8]) -> Result<bool, Fail> {
-    if folder == b"top".as_slice() {
-        Ok(true)
-    } else if folder == b"below".as_slice() {
-        Ok(false)
-    } else {
-        Err(unknown(folder))
-    }
-}
+const FOLDERS: Words<bool> = &[(b"top", true), (b"below", false)];
 
-/// The rows of a folder's file, and after `|` how many lines are skipped: lines that are too long, negative patterns, bad
-/// names, and macros where none is allowed.
+/// The rows of a folder's file, and after `|` how many lines are skipped: lines that are too long, negative patterns,
+/// bad names, and macros where none is allowed.
 pub fn read(alloc: Global, text: &[u8], folder: &[u8]) -> Result<Vec<u8>, Fail> {
-    let file = read_attributes(alloc, text, is_top(folder)?)?;
+    let file = read_attributes(alloc, text, found(FOLDERS, folder)?)?;
     Ok(listed(alloc, &file)?)
 }

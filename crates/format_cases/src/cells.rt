@@ -1,8 +1,8 @@
 //! Cells that grow.
 //!
-//! A cell `more TEXT` appends its text to the cell above it, and a cell `times COUNT TEXT` does so as often as it says. The
-//! first such repetition in what comes of a block is shown as the count and the text in parentheses.
-use case_kit::{Block, Cell, number_of, parted, push_all, unknown};
+//! A cell `more TEXT` appends its text to the cell above it, and a cell `times COUNT TEXT` does so as often as it says.
+//! The first such repetition in what comes of a block is shown as the count and the text in parentheses.
+use case_kit::{Block, Cell, given, number_of, parted, push_all, unknown};
 use memchr::memmem;
 use std::alloc::{AllocError, Global};
 use std::test::Fail;
@@ -28,6 +28,15 @@ fn grow(cells: &mut Vec<Cell>, text: &[u8]) -> Result<(), Fail> {
     }
 }
 
+/// Adds a cell as it stands.
+fn add(alloc: Global, whole: &mut Block, cell: &Cell) -> Result<(), AllocError> {
+    push_all(&mut whole.form, &[b" ", &cell.key])?;
+    let key = Vec::from_slice(alloc, &cell.key)?;
+    let value = Vec::from_slice(alloc, &cell.value)?;
+    whole.cells.push(Cell { key, value })?;
+    Ok(())
+}
+
 /// Takes a cell of a block.
 fn take(alloc: Global, whole: &mut Block, cell: &Cell) -> Result<(), Fail> {
     let key = cell.key.as_slice();
@@ -36,11 +45,7 @@ fn take(alloc: Global, whole: &mut Block, cell: &Cell) -> Result<(), Fail> {
     } else if key == b"times".as_slice() {
         grow(&mut whole.cells, &repeated(alloc, cell)?)
     } else {
-        push_all(&mut whole.form, &[b" ", key])?;
-        let key = Vec::from_slice(alloc, key)?;
-        let value = Vec::from_slice(alloc, &cell.value)?;
-        whole.cells.push(Cell { key, value })?;
-        Ok(())
+        given(add(alloc, whole, cell))
     }
 }
 

@@ -2,9 +2,9 @@
 //!
 //! It prints `ok` and the name of each block of which the wanted text comes, and of any other both texts.
 //!
-//! With the argument `index` it prints what `git ls-files --stage` prints of the index on standard input, with `attributes`
-//! what `git check-attr` prints for a script of attribute files and paths (`script`), and with `conversions` what a checkout
-//! makes of the contents of a table (`task`).
+//! With the argument `index` it prints what `git ls-files --stage` prints of the index on standard input, with
+//! `attributes` what `git check-attr` prints for a script of attribute files and paths (`script`), and with
+//! `conversions` what a checkout makes of the contents of a table (`task`).
 #![tactic(auto)]
 
 mod answer;
@@ -28,90 +28,130 @@ mod views;
 mod words;
 
 use byte_path::{quote_path, unmarked};
-use case_kit::{Block, Cases, Cell, number_of, report_files, unknown};
+use case_kit::{Block, Cases, Cell, Words, found, given, number_of, report_files, unknown};
 use std::alloc::Global;
 use std::io::{Read, Write};
 use std::test::Fail;
 use std::{env, io};
 
-/// What comes of a block with the one cell `text`, about a file that git reads.
-fn file_read(alloc: Global, form: &[u8], text: &[u8]) -> Result<Vec<u8>, Fail> {
-    if form == b"index text".as_slice() {
-        indexes::read(alloc, text)
-    } else if form == b"spelled text".as_slice() {
-        indexes::spelled(alloc, text)
-    } else if form == b"cut-index text".as_slice() {
-        indexes::cut(alloc, text)
-    } else if form == b"attributes text".as_slice() {
-        Ok(script::answered(alloc, text, true)?)
-    } else if form == b"config text".as_slice() {
-        Ok(configs::listed(alloc, text)?)
-    } else if form == b"counted-config text".as_slice() {
-        configs::counted(alloc, text)
-    } else if form == b"settings text".as_slice() {
-        views::viewed(alloc, text)
-    } else {
-        text_read(alloc, form, text)
+/// What a block with the one cell of a text is about.
+#[derive(Clone, Copy)]
+enum Text {
+    Index,
+    Spelled,
+    CutIndex,
+    Attributes,
+    Config,
+    CountedConfig,
+    Settings,
+    Keyword,
+    Encoding,
+    Conversions,
+    Path,
+    Quoted,
+    Unquoted,
+    Cut,
+    Unmarked,
+    Copied,
+    Kept,
+}
+
+const TEXTS: Words<Text> = &[
+    (b"index text", Text::Index),
+    (b"spelled text", Text::Spelled),
+    (b"cut-index text", Text::CutIndex),
+    (b"attributes text", Text::Attributes),
+    (b"config text", Text::Config),
+    (b"counted-config text", Text::CountedConfig),
+    (b"settings text", Text::Settings),
+    (b"keyword text", Text::Keyword),
+    (b"encoding text", Text::Encoding),
+    (b"conversions text", Text::Conversions),
+    (b"path text", Text::Path),
+    (b"quoted text", Text::Quoted),
+    (b"unquoted text", Text::Unquoted),
+    (b"cut text", Text::Cut),
+    (b"unmarked text", Text::Unmarked),
+    (b"copied text", Text::Copied),
+    (b"kept numbers", Text::Kept),
+];
+
+/// What comes of a block with the one cell of a text.
+fn text_read(alloc: Global, form: Text, text: &[u8]) -> Result<Vec<u8>, Fail> {
+    match form {
+        Text::Index => indexes::read(alloc, text),
+        Text::Spelled => indexes::spelled(alloc, text),
+        Text::CutIndex => indexes::cut(alloc, text),
+        Text::Attributes => given(script::answered(alloc, text, true)),
+        Text::Config => given(configs::listed(alloc, text)),
+        Text::CountedConfig => configs::counted(alloc, text),
+        Text::Settings => views::viewed(alloc, text),
+        Text::Keyword => given(contents::expanded(alloc, text)),
+        Text::Encoding => contents::named(alloc, text),
+        Text::Conversions => converted::converted(alloc, text),
+        Text::Path => given(texts::checked(alloc, text)),
+        Text::Quoted => given(quote_path(alloc, text)),
+        Text::Unquoted => texts::unquoted(alloc, text),
+        Text::Cut => texts::cut(alloc, text),
+        Text::Unmarked => given(Vec::from_slice(alloc, unmarked(text))),
+        Text::Copied => texts::copied(alloc, text),
+        Text::Kept => texts::kept(alloc, text),
     }
 }
 
-/// What a case says about another text.
-fn text_read(alloc: Global, form: &[u8], text: &[u8]) -> Result<Vec<u8>, Fail> {
-    if form == b"keyword text".as_slice() {
-        Ok(contents::expanded(alloc, text)?)
-    } else if form == b"encoding text".as_slice() {
-        contents::named(alloc, text)
-    } else if form == b"conversions text".as_slice() {
-        converted::converted(alloc, text)
-    } else if form == b"path text".as_slice() {
-        Ok(texts::checked(alloc, text)?)
-    } else if form == b"quoted text".as_slice() {
-        Ok(quote_path(alloc, text)?)
-    } else if form == b"unquoted text".as_slice() {
-        texts::unquoted(alloc, text)
-    } else if form == b"cut text".as_slice() {
-        texts::cut(alloc, text)
-    } else if form == b"unmarked text".as_slice() {
-        Ok(Vec::from_slice(alloc, unmarked(text))?)
-    } else if form == b"copied text".as_slice() {
-        texts::copied(alloc, text)
-    } else if form == b"kept numbers".as_slice() {
-        texts::kept(alloc, text)
-    } else {
-        Err(unknown(form))
-    }
+/// What a block with two cells is about.
+#[derive(Clone, Copy)]
+enum Pair {
+    Pattern,
+    Lines,
+    Ends,
+    Encoded,
+    Decimal,
+    Report,
 }
+
+const PAIRS: Words<Pair> = &[
+    (b"pattern pattern path", Pair::Pattern),
+    (b"lines text folder", Pair::Lines),
+    (b"ends content ends", Pair::Ends),
+    (b"encoded content state", Pair::Encoded),
+    (b"decimal text most", Pair::Decimal),
+    (b"report form lines", Pair::Report),
+];
 
 /// What comes of a block with two cells.
-fn pair_read(alloc: Global, form: &[u8], first: &[u8], second: &[u8]) -> Result<Vec<u8>, Fail> {
-    if form == b"pattern pattern path".as_slice() {
-        Ok(patterns::matched(alloc, first, second)?)
-    } else if form == b"lines text folder".as_slice() {
-        attributes::read(alloc, first, second)
-    } else if form == b"ends content ends".as_slice() {
-        line_ends::converted(alloc, first, second)
-    } else if form == b"encoded content state".as_slice() {
-        contents::encoded(alloc, first, second)
-    } else if form == b"decimal text most".as_slice() {
-        texts::decimal(alloc, first, second)
-    } else if form == b"report form lines".as_slice() {
-        reports::formed(alloc, first, second, None)
-    } else {
-        Err(unknown(form))
+fn pair_read(alloc: Global, form: Pair, first: &[u8], second: &[u8]) -> Result<Vec<u8>, Fail> {
+    match form {
+        Pair::Pattern => given(patterns::matched(alloc, first, second)),
+        Pair::Lines => attributes::read(alloc, first, second),
+        Pair::Ends => line_ends::converted(alloc, first, second),
+        Pair::Encoded => contents::encoded(alloc, first, second),
+        Pair::Decimal => texts::decimal(alloc, first, second),
+        Pair::Report => reports::formed(alloc, first, second, None),
     }
 }
 
+/// What a block with five cells is about.
+#[derive(Clone, Copy)]
+enum Five {
+    Decided,
+    Stored,
+    Placed,
+}
+
+const FIVES: Words<Five> = &[
+    (b"decided text crlf eol auto setting", Five::Decided),
+    (b"stored file ident action encoding old", Five::Stored),
+    (b"placed encoding sixteen other plain text", Five::Placed),
+];
+
 /// What comes of a block with five cells.
-fn five_read(alloc: Global, form: &[u8], cells: [&[u8]; 5]) -> Result<Vec<u8>, Fail> {
+fn five_read(alloc: Global, form: Five, cells: [&[u8]; 5]) -> Result<Vec<u8>, Fail> {
     let [a, b, c, d, e] = cells;
-    if form == b"decided text crlf eol auto setting".as_slice() {
-        line_ends::decided(alloc, [a, b, c], d, e)
-    } else if form == b"stored file ident action encoding old".as_slice() {
-        storing::stored(alloc, a, [b, c, d, e])
-    } else if form == b"placed encoding sixteen other plain text".as_slice() {
-        storing::placed(alloc, a, [b, c], [d, e])
-    } else {
-        Err(unknown(form))
+    match form {
+        Five::Decided => line_ends::decided(alloc, [a, b, c], d, e),
+        Five::Stored => storing::stored(alloc, a, [b, c, d, e]),
+        Five::Placed => storing::placed(alloc, a, [b, c], [d, e]),
     }
 }
 
@@ -124,7 +164,7 @@ fn word_read(alloc: Global, form: &[u8], cells: &[Cell]) -> Result<Vec<u8>, Fail
         return words::asked(alloc, cells);
     }
     match cells {
-        [text] => file_read(alloc, form, &text.value),
+        [text] => text_read(alloc, found(TEXTS, form)?, &text.value),
         _ => Err(unknown(form)),
     }
 }
@@ -143,7 +183,7 @@ fn four_read(alloc: Global, form: &[u8], cells: [&[u8]; 4]) -> Result<Vec<u8>, F
     if form != b"digests a b c d".as_slice() {
         return Err(unknown(form));
     }
-    Ok(digests::digested(alloc, cells)?)
+    given(digests::digested(alloc, cells))
 }
 
 /// What comes of a block with whole cells.
@@ -152,13 +192,13 @@ fn whole_read(alloc: Global, block: &Block) -> Result<Vec<u8>, Fail> {
     let cells = block.cells.as_slice();
     match cells {
         [] | [_] => word_read(alloc, form, cells),
-        [first, second] => pair_read(alloc, form, &first.value, &second.value),
+        [first, second] => { pair_read(alloc, found(PAIRS, form)?, &first.value, &second.value) }
         [a, b, c] => three_read(alloc, form, [&a.value, &b.value, &c.value]),
         [a, b, c, d] => four_read(alloc, form, [&a.value, &b.value, &c.value, &d.value]),
         [a, b, c, d, e] => {
             five_read(
                 alloc,
-                form,
+                found(FIVES, form)?,
                 [&a.value, &b.value, &c.value, &d.value, &e.value],
             )
         }
@@ -181,7 +221,7 @@ fn listed(alloc: Global, word: &str, text: &[u8]) -> Result<Vec<u8>, Fail> {
     if word == "index" {
         indexes::staged(alloc, text)
     } else if word == "attributes" {
-        Ok(script::answered(alloc, text, false)?)
+        given(script::answered(alloc, text, false))
     } else {
         converted::converted(alloc, text)
     }

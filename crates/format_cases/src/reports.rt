@@ -1,23 +1,16 @@
 //! The forms of a report or a plan.
-use case_kit::{noted, unknown};
+use case_kit::{Words, found, noted};
 use edge_kit::{MemorySink, SendFault, Sink};
 use report_forms::{FormSink, ReportForm};
 use std::alloc::{AllocError, Global};
 use std::test::Fail;
 
-fn form_of(cell: &[u8]) -> Result<ReportForm, Fail> {
-    if cell == b"text".as_slice() {
-        Ok(ReportForm::Text)
-    } else if cell == b"nul".as_slice() {
-        Ok(ReportForm::Nul)
-    } else if cell == b"json".as_slice() {
-        Ok(ReportForm::Json)
-    } else if cell == b"failures".as_slice() {
-        Ok(ReportForm::Failures)
-    } else {
-        Err(unknown(cell))
-    }
-}
+const FORMS: Words<ReportForm> = &[
+    (b"text", ReportForm::Text),
+    (b"nul", ReportForm::Nul),
+    (b"json", ReportForm::Json),
+    (b"failures", ReportForm::Failures),
+];
 
 /// What was written, or `fault` if the sink failed, with a note if that isn't all that is so of it.
 fn told(
@@ -36,15 +29,15 @@ fn told(
     }
 }
 
-/// The lines in a form, or `fault` if they have none in it or the sink's write with this number fails, with a note if it
-/// counts otherwise or something is written all the same.
+/// The lines in a form, or `fault` if they have none in it or the sink's write with this number fails, with a note if
+/// it counts otherwise or something is written all the same.
 pub fn formed(
     alloc: Global,
     form: &[u8],
     lines: &[u8],
     fail_at: Option<u32>,
 ) -> Result<Vec<u8>, Fail> {
-    let form = form_of(form)?;
+    let form = found(FORMS, form)?;
     let mut sink = FormSink::new(alloc, form, MemorySink::new(alloc, fail_at));
     let sent = sink.write(lines);
     let bytes = sink.out().bytes();

@@ -2,8 +2,8 @@
 //!
 //! Each line of a script is one of these, and any other is ignored:
 //!
-//! - `info`, `base`, `top` or `in FOLDER` begins `info/attributes`, the user's file, or the attribute file of a folder, in
-//!   any order;
+//! - `info`, `base`, `top` or `in FOLDER` begins `info/attributes`, the user's file, or the attribute file of a folder,
+//!   in any order;
 //! - a TAB and a line of the file that was begun last;
 //! - `names` and the names to ask for, with one space before each. The files are read here;
 //! - `of PATH` asks for the names' states;
@@ -16,7 +16,7 @@ use crate::answer::answer_with;
 use attr_line::{AttrContent, AttrFile, read_attributes};
 use attr_stack::{AttrFiles, AttrStack, FileAt, attributes_of};
 use byte_path::{Bytes, Items};
-use case_kit::push_all;
+use case_kit::{Words, meant, push_all};
 use std::alloc::{AllocError, Global};
 
 /// Where an attribute file stands.
@@ -53,6 +53,22 @@ pub struct Script {
     answers: Vec<u8>,
     is_compared: bool,
 }
+
+/// A line without a path or a text.
+#[derive(Clone, Copy)]
+enum Line {
+    Top,
+    Info,
+    Base,
+    End,
+}
+
+const LINES: Words<Line> = &[
+    (b"top", Line::Top),
+    (b"info", Line::Info),
+    (b"base", Line::Base),
+    (b"end", Line::End),
+];
 
 /// Adds the file of a draft, if it is a folder's.
 fn push_file(alloc: Global, files: &mut Vec<FileAt>, draft: &Draft) -> Result<(), AllocError>
@@ -237,6 +253,20 @@ impl Script {
         put(&mut self.question, None);
     }
 
+    /// Does what a line without a path or a text says.
+    fn take_word(&mut self, alloc: Global, line: Option<Line>) -> Result<(), AllocError> {
+        match line {
+            Some(Line::Top) => self.begin_folder(alloc, b""),
+            Some(Line::Info) => self.begin(alloc, Place::Info),
+            Some(Line::Base) => self.begin(alloc, Place::Base),
+            Some(Line::End) => {
+                self.forget();
+                Ok(())
+            }
+            None => Ok(()),
+        }
+    }
+
     /// Does what a line says.
     fn take(&mut self, alloc: Global, line: &[u8]) -> Result<(), AllocError> {
         if let Some(text) = line.strip_prefix(b"\t".as_slice()) {
@@ -247,17 +277,8 @@ impl Script {
             self.begin_folder(alloc, folder)
         } else if let Some(names) = line.strip_prefix(b"names ".as_slice()) {
             self.ask(alloc, names)
-        } else if line == b"top".as_slice() {
-            self.begin_folder(alloc, b"")
-        } else if line == b"info".as_slice() {
-            self.begin(alloc, Place::Info)
-        } else if line == b"base".as_slice() {
-            self.begin(alloc, Place::Base)
         } else {
-            if line == b"end".as_slice() {
-                self.forget();
-            }
-            Ok(())
+            self.take_word(alloc, meant(LINES, line))
         }
     }
 
@@ -275,8 +296,8 @@ impl Script {
     }
 }
 
-/// The answers to a script as `git check-attr` gives them, each compared with that of the files without a stack if this is
-/// wanted.
+/// The answers to a script as `git check-attr` gives them, each compared with that of the files without a stack if this
+/// is wanted.
 pub fn answered(alloc: Global, text: &[u8], is_compared: bool) -> Result<Vec<u8>, AllocError> {
     let mut script = Script::new(alloc, is_compared);
     script.take_all(alloc, text)?;

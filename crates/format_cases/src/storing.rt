@@ -3,36 +3,21 @@ use crate::states::{encoding_named, named};
 use back_convert::{
     Action, BackFault, back_encode, back_ends, back_ident, has_crlf, has_expanded, to_stored,
 };
-use case_kit::{noted, shown, unknown};
+use case_kit::{Words, found, noted, shown};
 use std::alloc::{AllocError, Global};
 use std::test::Fail;
 use tree_encoding::Encoding;
 
-fn action_of(cell: &[u8]) -> Result<Action, Fail> {
-    if cell == b"Binary".as_slice() {
-        Ok(Action::Binary)
-    } else if cell == b"TextLf".as_slice() {
-        Ok(Action::TextLf)
-    } else if cell == b"TextCrlf".as_slice() {
-        Ok(Action::TextCrlf)
-    } else if cell == b"AutoLf".as_slice() {
-        Ok(Action::AutoLf)
-    } else if cell == b"AutoCrlf".as_slice() {
-        Ok(Action::AutoCrlf)
-    } else {
-        Err(unknown(cell))
-    }
-}
+const ACTIONS: Words<Action> = &[
+    (b"Binary", Action::Binary),
+    (b"TextLf", Action::TextLf),
+    (b"TextCrlf", Action::TextCrlf),
+    (b"AutoLf", Action::AutoLf),
+    (b"AutoCrlf", Action::AutoCrlf),
+];
 
-fn is_set(cell: &[u8]) -> Result<bool, Fail> {
-    if cell == b"+".as_slice() {
-        Ok(true)
-    } else if cell == b"-".as_slice() {
-        Ok(false)
-    } else {
-        Err(unknown(cell))
-    }
-}
+/// Whether an attribute is set.
+const SIGNS: Words<bool> = &[(b"+", true), (b"-", false)];
 
 /// What came, or the fault.
 fn told(alloc: Global, came: Result<Vec<u8>, BackFault>) -> Result<Vec<u8>, AllocError> {
@@ -42,8 +27,8 @@ fn told(alloc: Global, came: Result<Vec<u8>, BackFault>) -> Result<Vec<u8>, Allo
     }
 }
 
-/// How a file is stored: whether `ident` is set, what is done with its line ends, whether the index's content has CR LF,
-/// and the encoding.
+/// How a file is stored: whether `ident` is set, what is done with its line ends, whether the index's content has
+/// CR LF, and the encoding.
 #[derive(Clone, Copy)]
 struct Storing {
     ident: bool,
@@ -87,8 +72,8 @@ fn at_once(alloc: Global, file: &[u8], storing: &Storing) -> Result<Vec<u8>, Bac
 /// How the cells say that a file is stored.
 fn storing_of(alloc: Global, [ident, action, encoding, old]: [&[u8]; 4]) -> Result<Storing, Fail> {
     Ok(Storing {
-        ident: is_set(ident)?,
-        action: action_of(action)?,
+        ident: found(SIGNS, ident)?,
+        action: found(ACTIONS, action)?,
         old_crlf: has_crlf(old),
         encoding: named(alloc, encoding)?,
     })
