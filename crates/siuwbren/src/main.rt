@@ -6,23 +6,22 @@
 //! repository, why files weren't written, what a driver wrote in place of packets, and what git would do otherwise.
 #![tactic(auto)]
 
-mod checkin;
-mod checkout;
 mod ends;
 mod engine_words;
 mod journal;
 mod plan;
 mod rehearsed;
 
-use crate::checkin::check_in_tree;
-use crate::checkout::check_out;
-use crate::ends::{end_with, give, refuse_words};
+use crate::ends::{give, refuse_words};
 use crate::journal::audit;
 use crate::plan::show_plan;
 use crate::rehearsed::rehearse;
 use checkout_engine::ExitStatus;
 use edge_adapters::hold_standard;
 use program_kit::words_of;
+use siuwbren_checkin::check_in_tree;
+use siuwbren_checkout::check_out;
+use siuwbren_index::end_with;
 use siuwbren_words::{Subcommand, UsageFault, read_words};
 use std::alloc::AllocError;
 use std::env::args;

@@ -1,9 +1,8 @@
 //! The plan of a checkout.
-use crate::ends::{end_run, end_with};
 use checkout_engine::{ExitStatus, plan_text};
 use git_edge::GitRepo;
 use program_kit::show_refused_path;
-use siuwbren_index::{refuse_guarded, refuse_repository, sink_of};
+use siuwbren_index::{end_run, end_with, refuse_guarded, refuse_repository, sink_of};
 use siuwbren_words::PlanWords;
 use std::alloc::AllocError;
 

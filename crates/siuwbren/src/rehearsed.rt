@@ -1,10 +1,9 @@
 //! A rehearsal, which uses no folder.
-use crate::ends::end_with;
 use crate::engine_words::rehearse_words;
 use checkout_engine::run;
 use edge_kit::{MemoryRepo, MemorySpawner, MemoryTree, NoGate};
 use report_forms::ReportForm;
-use siuwbren_index::sink_of;
+use siuwbren_index::{end_with, sink_of};
 use std::alloc::AllocError;
 use std::sync::Wait;
 use std::thread::Threads;

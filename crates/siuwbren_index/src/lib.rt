@@ -2,12 +2,13 @@
 //!
 //! It refuses an index that other file systems would let change git's own folder, and a folder that isn't meant. It
 //! keeps entries as they are in a check-in, says what a check-in leaves, and updates the index after a checkout or a
-//! check-in. Standard error says why something is refused.
+//! check-in. Standard error says why something is refused, how a command ended, and what git would do otherwise.
 #![tactic(auto)]
 
 mod assumed;
 mod channel;
 mod checkin_index;
+mod ends;
 mod faults;
 mod guarded;
 mod kept_notes;
@@ -18,6 +19,7 @@ mod worktree;
 pub use assumed::hold_assumed;
 pub use channel::{Channel, sink_of};
 pub use checkin_index::{CheckedIn, index_of_checkin, put_made};
+pub use ends::{end_run, end_with, show_notes};
 pub use faults::{refuse_repository, say};
 pub use kept_notes::show_kept;
 pub use own_index::{links_of, refuse_guarded};

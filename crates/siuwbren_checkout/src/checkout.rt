@@ -1,5 +1,4 @@
 //! A checkout from a git folder.
-use crate::ends::{end_run, end_with, show_notes};
 use crate::engine_words::checkout_words;
 use crate::journal::journal_file;
 use checkout_core::Event;
@@ -14,7 +13,8 @@ use program_kit::{
     show_refused_path,
 };
 use siuwbren_index::{
-    index_lock, put_index, refuse_guarded, refuse_repository, sink_of, updated_index,
+    end_run, end_with, index_lock, put_index, refuse_guarded, refuse_repository, show_notes,
+    sink_of, updated_index,
 };
 use siuwbren_words::{CheckoutWords, ProgressChoice};
 use std::alloc::AllocError;

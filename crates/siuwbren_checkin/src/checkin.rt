@@ -1,5 +1,4 @@
 //! A check-in into a git folder.
-use crate::ends::{end_run, end_with, show_notes};
 use crate::engine_words::checkin_words;
 use checkin_edge::{FolderFiles, FolderKeep, HeldEntry, ObjectForm};
 use checkout_engine::ExitStatus;
@@ -8,8 +7,8 @@ use git_edge::GitRepo;
 use program_kit::{EndedCheckin, check_in, show_refused_path};
 use report_forms::ReportForm;
 use siuwbren_index::{
-    CheckedIn, hold_assumed, index_lock, index_of_checkin, links_of, put_made, refuse_guarded,
-    refuse_repository, refused_tree, say, show_kept, tree_of,
+    CheckedIn, end_run, end_with, hold_assumed, index_lock, index_of_checkin, links_of, put_made,
+    refuse_guarded, refuse_repository, refused_tree, say, show_kept, show_notes, tree_of,
 };
 use siuwbren_words::CheckinWords;
 use std::alloc::AllocError;
