@@ -33,7 +33,7 @@ use Rattle.driver_desk.specs.Shown.{IsGivenUp, IsDropped, ShowsRead, ShowsUnread
 use Rattle.driver_desk.specs.Works.{own_of}
 use Rattle.checkout_plan.specs.declared.path_plan.PathPlan.{PathPlan}
 use Rattle.writer_pool.specs.Closing.{closed_card}
-use Rattle.writer_pool.specs.Writing.{WritesCard}
+use Rattle.card_worker.specs.Writing.{WritesCard}
 use Rattle.checkout_paths.specs.Outcome.{Outcome, LeavesFile, MayBePut, MayHaveFailed, HasDeskVerdict, HasOutcome, file_with}
 use Rattle.checkout_paths.specs.Prepared.{IsPreparedTo}
 use Rattle.checkout_paths.specs.Talks.{DriverTalk, heard_at}

@@ -24,7 +24,7 @@ use Rattle.checkout_plan.specs.declared.path_plan.PathPlan.{PathPlan}
 use Rattle.driver_line.specs.Conversations.{notes_in}
 use Rattle.writer_pool.specs.Closing.{IsFromDesk, ServesCard, EndsAtDesk, MayLeaveDesk, ClosesCard}
 use Rattle.writer_pool.specs.Ends.{IsEndOf}
-use Rattle.writer_pool.specs.Writing.{WritesCard}
+use Rattle.card_worker.specs.Writing.{WritesCard}
 use Rattle.checkout_paths.specs.Cards.{IsCardFor, AreTexts, IsTextIn, IsText}
 use Rattle.checkout_paths.specs.Made.{is_open}
 use Rattle.checkout_paths.specs.Talks.{DriverTalk}

@@ -34,7 +34,7 @@ use Rattle.checkout_plan.specs.Making.{FitsKind}
 use Rattle.driver_desk.specs.Shown.{IsGivenUp}
 use Rattle.driver_desk.specs.Works.{own_of}
 use Rattle.driver_desk.specs.Serving.{TellsPart}
-use Rattle.writer_pool.specs.Writing.{WritesCard}
+use Rattle.card_worker.specs.Writing.{WritesCard}
 use Rattle.checkout_paths.specs.Writing.{joined}
 use Rattle.checkout_paths.specs.Outcome.{Outcome, IsOpenPath, MayLeavePart, LeavesPart, HasVerdict, HasOutcome, blob_back, leaf_back}
 use Rattle.checkout_paths.specs.Talks.{DriverTalk}

@@ -31,9 +31,9 @@ use Rattle.writer_pool.specs.Jobs.{EndSeen, IsJob, AreJobs, LeavesDesk, IsThroug
 use Rattle.writer_pool.specs.Pools.{IsSeed, AreSeeds, AreStartersBack, AreTalks}
 use Rattle.writer_pool.specs.Sealing.{EndsIn, EndsAt, leaf_at}
 use Rattle.writer_pool.specs.Tying.{IsTiedIn, IsTiedAt}
-use Rattle.writer_pool.specs.Writing.{WritesCard}
-use Rattle.writer_pool.specs.Turns.{AreTurns}
-use Rattle.writer_pool.specs.Working.{IsShown, AreShown, Idled, blob_in, leaf_in, own_events}
+use Rattle.card_worker.specs.Writing.{WritesCard}
+use Rattle.card_worker.specs.Turns.{AreTurns}
+use Rattle.card_worker.specs.Working.{IsShown, AreShown, Idled, blob_in, leaf_in, own_events}
 use Rattle.writer_pool.specs.Ends.{ShowsEnd, IsShownAll, IsBack, AreBack}
 use Rattle.writer_pool.proofs.Places.{some_is, get_map, get_map_back, get_second}
 use Rattle.writer_pool.proofs.TurnSteps.{turns_claimed, turns_back}

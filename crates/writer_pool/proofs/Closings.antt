@@ -17,9 +17,9 @@ use Rattle.checkout_book.specs.declared.plan.Parts.{Parts}
 use Rattle.checkout_book.specs.declared.shelf.Slot.{Slot}
 use Rattle.checkout_book.specs.declared.plan.HistoryEntry.{HistoryEntry}
 use Rattle.checkout_book.specs.Entries.{number_or, number_in, entry_of, entries}
-use Rattle.writer_pool.specs.Writing.{WritesCard}
+use Rattle.card_worker.specs.Writing.{WritesCard}
 use Rattle.writer_pool.specs.Closing.{IsFromBook, IsFromDesk, ServesCard, EndsAtDesk, EndsCard}
-use Rattle.writer_pool.specs.Working.{own_events}
+use Rattle.card_worker.specs.Working.{own_events}
 use Rattle.writer_pool.proofs.Places.{same_or, eqb_self, get_front, get_within, place_is}
 
 none_noted : (starts : List Start) (d : ℕ) (es : List Event) → noted es ≡ [] → notes starts d es ≡ []

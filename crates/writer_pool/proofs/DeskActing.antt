@@ -31,8 +31,8 @@ use Rattle.writer_pool.specs.Closing.{IsFromBook, RefusedBacks, ServesCard}
 use Rattle.writer_pool.specs.Ends.{ShowsEnd, IsShownAll, IsBack}
 use Rattle.writer_pool.specs.OnBook.{given_in, CloseOwn, Recording, Place, place_of, IsDeskPass, standing_at, standing_of, given_of}
 use Rattle.writer_pool.specs.Serving.{recording}
-use Rattle.writer_pool.specs.Turns.{AreTurns}
-use Rattle.writer_pool.specs.Working.{AreShown, IsReady, Idled, blob_in, leaf_in, own_events}
+use Rattle.card_worker.specs.Turns.{AreTurns}
+use Rattle.card_worker.specs.Working.{AreShown, IsReady, Idled, blob_in, leaf_in, own_events}
 use Rattle.writer_pool.proofs.Places.{some_is, get_map, get_map_back, get_within, get_behind, split}
 use Rattle.writer_pool.proofs.TurnSteps.{turns_back}
 use Rattle.writer_pool.proofs.Acting.{work_shown}

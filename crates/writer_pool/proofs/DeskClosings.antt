@@ -31,7 +31,7 @@ use Rattle.driver_desk.specs.Ties.{FitsOwn, HasContent, FitsEnd, AllFit}
 use Rattle.driver_desk.specs.Works.{card_paths}
 use Rattle.writer_pool.specs.Closing.{RefusedBacks, closed_card, ServesCard}
 use Rattle.writer_pool.specs.OnBook.{card_of, closed_by, given_by, given_in, ClosesOwn, CloseOwn, desk_cards, standing_at}
-use Rattle.writer_pool.specs.Working.{blob_in, leaf_in, own_events}
+use Rattle.card_worker.specs.Working.{blob_in, leaf_in, own_events}
 use Rattle.writer_pool.proofs.Places.{some_is, eqb_self, get_map, get_map_back}
 use Rattle.writer_pool.proofs.Recordings.{AllBy, is_found, in_cards, one_card}
 

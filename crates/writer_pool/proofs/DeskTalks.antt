@@ -24,8 +24,8 @@ use Rattle.writer_pool.specs.Jobs.{HasServed}
 use Rattle.writer_pool.specs.Pools.{HasTalked}
 use Rattle.writer_pool.specs.Sealing.{EndsIn}
 use Rattle.writer_pool.specs.Serving.{IsServedOn, recording}
-use Rattle.writer_pool.specs.Turns.{AreTurns}
-use Rattle.writer_pool.specs.Working.{Idled, own_events}
+use Rattle.card_worker.specs.Turns.{AreTurns}
+use Rattle.card_worker.specs.Working.{Idled, own_events}
 use Rattle.writer_pool.proofs.Places.{get_map, get_within, get_behind, split}
 use Rattle.writer_pool.proofs.Acting.{turn_claim}
 use Rattle.writer_pool.proofs.Recordings.{standing_is, events_own}

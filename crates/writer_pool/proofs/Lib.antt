@@ -1,8 +1,4 @@
-pub mod WorkTurns
 pub mod TurnSteps
-pub mod FourLemmas
-pub mod HeldCards
-pub mod Hands
 pub mod Places
 pub mod Closings
 pub mod CoreMoves

@@ -16,7 +16,7 @@ use Rattle.checkout_book.specs.Shape.{Shelf}
 use Rattle.checkout_book.specs.Sights.{Sight, tell}
 use Rattle.checkout_book.specs.Entries.{HaveActors, number_or, entries, entry_of}
 use Rattle.checkout_book.specs.Reserving.{IsFinished}
-use Rattle.writer_pool.specs.Working.{own_events}
+use Rattle.card_worker.specs.Working.{own_events}
 use Rattle.writer_pool.proofs.Places.{same_or}
 
 -- an event that no desk notes adds no note

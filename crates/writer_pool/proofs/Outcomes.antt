@@ -25,7 +25,7 @@ use Rattle.checkout_book.specs.Shelves.{plan_of, cards_of, IsRow, Lies}
 use Rattle.checkout_book.specs.Ending.{parts_in}
 use Rattle.edge_kit.specs.Seen.{BlobSeen, LeafSeen}
 use Rattle.writer_pool.specs.Closing.{IsFromBook, EndsAtDesk, EndsCard, ClosesCard}
-use Rattle.writer_pool.specs.Writing.{WritesCard}
+use Rattle.card_worker.specs.Writing.{WritesCard}
 use Rattle.writer_pool.specs.Ends.{IsThrough, IsRun, IsEndOf, AreEnds}
 use Rattle.writer_pool.specs.Sealing.{EndsAt, EndsOn, leaf_at, leaf_in_slot}
 use Rattle.writer_pool.proofs.Places.{some_is, same_or}

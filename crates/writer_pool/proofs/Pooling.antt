@@ -20,7 +20,7 @@ use Rattle.writer_pool.specs.Dealing.{JobSeen}
 use Rattle.writer_pool.specs.Ends.{AreBack, IsRun, AreEnds}
 use Rattle.writer_pool.specs.Jobs.{EndSeen, AreThroughJobs, passes_in}
 use Rattle.writer_pool.specs.Sealing.{EndsIn, EndsAt, EndsOn, leaf_at}
-use Rattle.writer_pool.specs.Working.{own_events}
+use Rattle.card_worker.specs.Working.{own_events}
 use Rattle.writer_pool.proofs.Places.{some_is}
 use Rattle.writer_pool.proofs.Acting.{passes_back, passes_length}
 

@@ -27,8 +27,8 @@ use Rattle.checkout_book.specs.Entries.{number_or, number_in, entries, entry_of,
 use Rattle.checkout_book.specs.Shelves.{cards_of, plan_of}
 use Rattle.checkout_book.specs.Reserving.{IsFinished}
 use Rattle.writer_pool.specs.Closing.{IsFromBook, IsFromDesk, RefusedBacks, ServesCard, EndsAtDesk, EndsCard}
-use Rattle.writer_pool.specs.Writing.{WritesCard}
-use Rattle.writer_pool.specs.Working.{blob_in, leaf_in, own_events}
+use Rattle.card_worker.specs.Writing.{WritesCard}
+use Rattle.card_worker.specs.Working.{blob_in, leaf_in, own_events}
 use Rattle.writer_pool.specs.Ends.{ShowsEnd, AreBack, IsQuiet}
 use Rattle.writer_pool.specs.Sealing.{EndsIn, EndsOn, leaf_in_slot}
 use Rattle.writer_pool.proofs.Places.{some_is, same_number, eqb_self, there_or_past, get_map, get_map_back}

@@ -31,7 +31,7 @@ use Rattle.checkout_book.specs.Passes.{Stamped, IsPass, Closes, Appends, note_en
 use Rattle.checkout_book.specs.Reserving.{AreDealt}
 use Rattle.driver_desk.specs.Recorders.{Standing, RecorderSeen, gave, event_of, events_in, MayDo}
 use Rattle.driver_desk.specs.Serving.{Given, Noted, Closed, HandedBack}
-use Rattle.writer_pool.specs.Working.{own_events}
+use Rattle.card_worker.specs.Working.{own_events}
 use Rattle.writer_pool.specs.OnBook.{card_of, closed_by, given_by, given_in, ClosesOwn, CloseOwn, Recording, place_of, items_of, desk_cards, IsDeskPass, Place, standing_at, standing_of, given_of, recorder_of}
 use Rattle.writer_pool.proofs.Places.{some_is, same_number, eqb_self, get_map, get_map_back, get_front, get_second}
 use Rattle.writer_pool.proofs.Dealt.{same_place, starts_at}

@@ -1,7 +1,8 @@
 -- What still waits is written and closed.
 use Rattle.std.proofs.Common.{◌≡◌, ◌==◌, ℕ, zero, suc, ◌<◌, ⊎_elim, Bool, true, false, cond, List, [], ◌∷◌, ◌++◌, length, Option, Some, None, refl, sym, ap, ◌∙◌, subst, append_assoc, arith}
 use Rattle.edge_kit.specs.Seen.{LeafSeen}
-use Rattle.std.specs.Prelude.{slice_get, slice_set, ◌||◌}
+use Rattle.std.specs.Prelude.{slice_get, slice_set, ◌||◌, is_some}
+use Rattle.tree_encoding.specs.declared.prepared.Prepared.{Prepared}
 use Rattle.convert_plan.specs.declared.card.Card.{Card}
 use Rattle.convert_plan.specs.Card.{CardSeen, IsCardOf}
 use Rattle.checkout_core.specs.declared.verdict.FilterCause.{FilterCause}
@@ -14,6 +15,9 @@ use Rattle.checkout_core.specs.declared.event.Event.{Event}
 use Rattle.checkout_core.specs.declared.event.Event.TheVariants.{Claim, Close, HandBack}
 use Rattle.checkout_core.specs.States.{Core, with_state}
 use Rattle.checkout_core.specs.Steps.{step_of}
+use Rattle.checkout_core.specs.Verdicts.{held_close}
+use Rattle.checkout_core.specs.Actors.{is_step}
+use Rattle.checkout_core.specs.Desks.{was_read}
 use Rattle.checkout_core.specs.Fates.{Untold, fate_of}
 use Rattle.checkout_core.specs.Notes.{notes}
 use Rattle.checkout_core.specs.Hands.{is_held, held_at, Holds}
@@ -22,18 +26,18 @@ use Rattle.checkout_book.specs.declared.plan.BookPlan.{BookPlan}
 use Rattle.checkout_book.specs.declared.shelf.Slot.{Slot}
 use Rattle.checkout_book.specs.declared.shelf.Slot.TheVariants.{Away, Waits, Ended}
 use Rattle.checkout_book.specs.Shape.{Shelf}
-use Rattle.checkout_book.specs.Sights.{Sight, seen}
+use Rattle.checkout_book.specs.Sights.{Sight, seen, tell}
 use Rattle.checkout_book.specs.Shelves.{plan_of, cards_of, IsPlanned, IsRow, Lies, WaitsSo, IsEnded, AreEnded}
 use Rattle.checkout_book.specs.Ending.{GoesOn}
 use Rattle.checkout_book.specs.Turns.{Turned, Claimed}
-use Rattle.writer_pool.specs.Writing.{WritesCard}
+use Rattle.card_worker.specs.Working.{IsShown}
+use Rattle.card_worker.specs.Writing.{WritesCard}
 use Rattle.writer_pool.specs.Closing.{IsFromDesk, RefusedBacks, EndsCard}
 use Rattle.writer_pool.specs.Ends.{IsQuiet}
 use Rattle.writer_pool.specs.Sealing.{EndsOn, leaf_in_slot}
 use Rattle.writer_pool.proofs.Places.{some_is, get_set_same, get_set_other, get_more, get_front, get_last, place_is}
 use Rattle.writer_pool.proofs.Closings.{notes_quiet, desk_before, ends_longer, ends_claimed}
 use Rattle.writer_pool.proofs.CoreMoves.{moved_here, hands_moved, away_moved}
-use Rattle.writer_pool.proofs.WorkTurns.{shown}
 
 abbrev pub TakesPath : Type 0
 TakesPath = (c x : Core) (p a : ℕ) → step_of c (Claim p a) ≡ Some x
@@ -43,6 +47,17 @@ abbrev pub ClosesPath : Type 0
 ClosesPath = (c x : Core) (p a : ℕ) (o : Own) → step_of c (Close p a o) ≡ Some x
     → (s : PathState) × (v : Verdict) × Moved c x p s (Closed v) × ((is_held a s || is_with_driver s) ≡ true)
 
+-- each outcome that a claimed card may have gives its path a verdict
+abbrev pub GivesVerdict : Type 0
+GivesVerdict = (card : CardSeen) (raw : Option FilterCause) (ready : Option Prepared) (o : Own)
+    → WaitsSo card (Waiting raw) ready → (is_some ready ≡ true → was_read o ≡ true)
+    → (v : Verdict) × (held_close raw o ≡ Some v)
+
+-- a path in hand may be closed with a verdict
+abbrev pub MayClose : Type 0
+MayClose = (c : Core) (p a : ℕ) (raw : Option FilterCause) (o : Own) (v : Verdict) → Holds c p a raw
+    → held_close raw o ≡ Some v → is_step c (Close p a o) ≡ true
+
 module _ {B L : Type 0} where
   pub ended_at : (slots : List (Slot B L)) (es : List Event) (i p a : ℕ) (o : Own) → AreEnded slots es
       → slice_get es i ≡ Some (Close p a o) → (b : B) × (l : L) × (slice_get slots p ≡ Some (Ended b l))
@@ -51,6 +66,21 @@ module _ {B L : Type 0} where
   ended_at slots (x ∷ es) (suc i) p a o h e = ended_at slots es i p a o h.1 e
 
 module _ {B L : Type 0} (see : Sight B L) where
+  -- how the writing of a claimed card ended shows in the entry of its Close
+  abbrev pub ShowsWriting : Type 0
+  ShowsWriting = (cards : List (Card B L)) (k w : Card B L) (n : ℕ) (o : Own) → IsPlanned see cards k
+      → IsCardOf (seen see k) (seen see w) → WritesCard (seen see k) o (see.blob w.blob) (see.leaf w.leaf)
+      → IsShown see cards (Close w.path n o) (Some (tell see w.blob w.leaf))
+
+  -- a card that an actor has in hand may be closed after it was written
+  pub held_may_close : MayClose → GivesVerdict → (x : Core) (k w : Card B L) (raw : Option FilterCause) (n : ℕ) (o : Own)
+      → Holds x k.path n raw → WaitsSo (seen see k) (Waiting raw) k.ready → IsCardOf (seen see k) (seen see w)
+      → (is_some k.ready ≡ true → was_read o ≡ true) → is_step x (Close w.path n o) ≡ true
+  held_may_close may gives x k w raw n o holds so kept read =
+      let v = gives (seen see k) raw k.ready o so read in
+      subst (λ (p : ℕ). is_step x (Close p n o) ≡ true) (sym (ap (λ (z : CardSeen). z.path) kept))
+      (may x k.path n raw o v.0 holds v.1)
+
   -- what is known of the card of a waiting path
   pub record Waited (cards : List (Card B L)) (core : Core) (k : Card B L) : Type 0 where
     pub row : Path
@@ -209,11 +239,11 @@ module _ {B L : Type 0} (see : Sight B L) where
   free true x h e = refl
   free false x h e = e
 
-  pub rest_turn : TakesPath → ClosesPath → (s0 s1 s2 : Shelf B L) (k w : Card B L) (o : Own) → IsQuiet see s0
+  pub rest_turn : TakesPath → ClosesPath → ShowsWriting → (s0 s1 s2 : Shelf B L) (k w : Card B L) (o : Own) → IsQuiet see s0
       → Claimed 0 s0 s1 k → Turned (Close w.path 0 o) w.path (Ended w.blob w.leaf) s1 s2 → GoesOn see s2
       → IsCardOf (seen see k) (seen see w) → WritesCard (seen see k) o (see.blob w.blob) (see.leaf w.leaf)
       → IsQuiet see s2
-  rest_turn takes closes s0 s1 s2 k w o quiet c turned goes kept wrote =
+  rest_turn takes closes shows s0 s1 s2 k w o quiet c turned goes kept wrote =
       let h = in_hand takes s0 s1 k quiet.goes_on c in
       let z = closes s1.core s2.core w.path 0 o turned.step in
       let is : w.path ≡ k.path = ap (λ (y : CardSeen). y.path) kept in
@@ -253,7 +283,7 @@ module _ {B L : Type 0} (see : Sight B L) where
             (λ (last : (Close w.path 0 o ≡ Close p a x) × (i ≡ length s1.events.items)).
             let u = last.0 in
             let same : w.path ≡ p = cc (u) in
-            let g = shown see (cards_of (plan_of s0)) k w 0 o h.planned kept wrote in (
+            let g = shows (cards_of (plan_of s0)) k w 0 o h.planned kept wrote in (
               w.blob,
               w.leaf,
               ap (λ (l : List (Slot B L)). slice_get l p) turned.slots

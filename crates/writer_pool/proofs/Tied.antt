@@ -22,8 +22,8 @@ use Rattle.driver_desk.specs.Ties.{FitsOwn, HasContent, AllFit, AreTied}
 use Rattle.driver_desk.specs.Works.{WorkSeen}
 use Rattle.writer_pool.specs.OnBook.{IsDeskPass, given_in, place_of, standing_of, given_of}
 use Rattle.writer_pool.specs.Tying.{IsTiedIn, AreTiedIn, IsTiedAt}
-use Rattle.writer_pool.specs.Turns.{AreTurns}
-use Rattle.writer_pool.specs.Working.{Idled, own_events}
+use Rattle.card_worker.specs.Turns.{AreTurns}
+use Rattle.card_worker.specs.Working.{Idled, own_events}
 use Rattle.writer_pool.proofs.Places.{some_is, eqb_self, get_map, get_map_back, get_within, get_behind, split}
 use Rattle.writer_pool.proofs.TurnSteps.{turns_back}
 use Rattle.writer_pool.proofs.Resting.{TakesPath, ClosesPath}

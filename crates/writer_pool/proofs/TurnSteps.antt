@@ -1,26 +1,11 @@
--- Turns, step by step.
+-- What is closed in turns was claimed before.
 use Rattle.std.proofs.Common.{◌≡◌, ℕ, zero, suc, ◌<◌, ◌⊎◌, inl, inr, ⊎_elim, List, [], ◌∷◌, ◌++◌, Some, refl, sym, ap, ◌∙◌, subst, arith}
-use Rattle.std.specs.Prelude.{slice_get, length}
+use Rattle.std.specs.Prelude.{slice_get}
 use Rattle.checkout_core.specs.declared.event.Event.{Event}
 use Rattle.checkout_core.specs.declared.event.Event.TheVariants.{Claim, Close, HandBack}
 use Rattle.checkout_core.specs.declared.verdict.Own.{Own}
-use Rattle.writer_pool.specs.Turns.{IsClaimStep, IsCloseStep, TurnStep, TurnSteps, AreTurns}
+use Rattle.card_worker.specs.Turns.{IsClaimStep, IsCloseStep, TurnStep, TurnSteps, AreTurns}
 use Rattle.writer_pool.proofs.Places.{some_is}
-
-pub steps_more : (xs ys : List Event) (t m u : List Event) → TurnSteps t xs m → TurnSteps m ys u → TurnSteps t (xs ++ ys) u
-steps_more [] ys t m u h k = subst (λ (z : List Event). TurnSteps z ys u) (sym h) k
-steps_more (x ∷ xs) ys t m u h k = (h.0, h.1, steps_more xs ys h.0 m u h.2 k)
-
-pub claims_more : (es claims : List Event) (p a : ℕ) → TurnSteps [] es claims → length claims < 8
-    → TurnSteps [] (es ++ Claim p a ∷ []) (claims ++ Claim p a ∷ [])
-claims_more es claims p a h few =
-    let u : List Event = claims ++ Claim p a ∷ [] in
-    steps_more es (Claim p a ∷ []) [] claims u h (u, inl (p, a, refl, few, refl), refl)
-
-pub closes_more : (es claims : List Event) (p a : ℕ) (o : Own) → TurnSteps [] es (Claim p a ∷ claims)
-    → TurnSteps [] (es ++ Close p a o ∷ []) claims
-closes_more es claims p a o h =
-    steps_more es (Close p a o ∷ []) [] (Claim p a ∷ claims) claims h (claims, inr (p, a, o, refl, refl), refl)
 
 abbrev Among : Event → List Event → Type 0
 Among x [] = ⊥

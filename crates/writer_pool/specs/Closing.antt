@@ -13,7 +13,7 @@ use Rattle.checkout_core.specs.declared.verdict.Own.{Own}
 use Rattle.checkout_core.specs.Fates.{Fate, Untold, Known, fate_of}
 use Rattle.checkout_core.specs.Notes.{notes}
 use Rattle.driver_desk.specs.Shown.{ShowsRead, ShowsUnread}
-use Rattle.writer_pool.specs.Writing.{WritesCard}
+use Rattle.card_worker.specs.Writing.{WritesCard}
 
 -- The actor of this place of the history had the card from the book: the path started in the pool, or the actor
 -- claimed it before.

@@ -28,7 +28,7 @@ use Rattle.checkout_book.specs.Ending.{GoesOn}
 use Rattle.checkout_book.specs.Turns.{NoneWaits}
 use Rattle.checkout_book.specs.Reserving.{HasNothing}
 use Rattle.writer_pool.specs.Closing.{IsFromDesk, RefusedBacks, EndsCard, ClosesCard}
-use Rattle.writer_pool.specs.Working.{blob_in, leaf_in, own_events}
+use Rattle.card_worker.specs.Working.{blob_in, leaf_in, own_events}
 
 -- the history is a complete run, with these verdicts
 pub record IsRun (starts : List Start) (workers drivers : ℕ) (history : List Event) (verdicts : List Verdict)

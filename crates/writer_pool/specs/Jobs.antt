@@ -24,7 +24,7 @@ use Rattle.writer_pool.specs.OnBook.{standing_at}
 use Rattle.writer_pool.specs.Pools.{HasTalked, seed_cards}
 use Rattle.writer_pool.specs.Sealing.{EndsIn}
 use Rattle.writer_pool.specs.Tying.{AreTiedIn}
-use Rattle.writer_pool.specs.Working.{own_events}
+use Rattle.card_worker.specs.Working.{own_events}
 
 -- what an actor leaves
 abbrev pub EndSeen : Type 0 → Type 0 → Type 0 → Type 0

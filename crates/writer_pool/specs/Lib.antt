@@ -1,9 +1,4 @@
-pub mod Writing
 pub mod Closing
-pub mod Turns
-pub mod Working
-pub mod Fours
-pub mod Holding
 pub mod Rooms
 pub mod Ends
 pub mod Sealing

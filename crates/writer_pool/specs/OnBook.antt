@@ -22,7 +22,7 @@ use Rattle.checkout_book.specs.Reserving.{AreDealt}
 use Rattle.driver_desk.specs.Recorders.{Standing, RecorderSeen}
 use Rattle.driver_desk.specs.Serving.{Given, Noted, Closed, HandedBack}
 use Rattle.writer_pool.specs.Closing.{closed_card}
-use Rattle.writer_pool.specs.Working.{blob_in, leaf_in}
+use Rattle.card_worker.specs.Working.{blob_in, leaf_in}
 
 -- the first card of this path
 abbrev pub card_of : ℕ → List CardSeen → Option CardSeen

@@ -14,7 +14,7 @@ use Rattle.checkout_book.specs.Shape.{Shelf}
 use Rattle.checkout_book.specs.Sights.{Sight}
 use Rattle.checkout_book.specs.Passes.{close_entry}
 use Rattle.writer_pool.specs.Closing.{IsFromDesk}
-use Rattle.writer_pool.specs.Working.{leaf_in, own_events}
+use Rattle.card_worker.specs.Working.{leaf_in, own_events}
 
 -- In its own list, an actor closed the path p, which it hadn't claimed, and its leaf ended so.
 pub record EndsIn (mine : List HistoryEntry) (p : ℕ) (leaf : LeafSeen) : Type 0 where

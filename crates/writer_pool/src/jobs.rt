@@ -6,8 +6,7 @@ ghost use Rattle.checkout_book.specs.Sights.{sight};
 ghost use Rattle.writer_pool.specs.Jobs.{IsJob, AreJobs, IsThroughJob, AreThroughJobs};
 
 use crate::desk_actor::{DeskEnd, serve_desk};
-use crate::hand::Gathering;
-use crate::workers::work;
+use card_worker::{Gathering, work};
 use checkout_book::book::{Book, Pass};
 use driver_desk::{Desk, Served};
 use edge_kit::{Blob, Gate, Leaf, Starter};

@@ -16,10 +16,11 @@ ghost use Rattle.writer_pool.specs.Ends.{AreBack, AreEnds, IsQuiet, IsRun, IsThr
 ghost use Rattle.writer_pool.specs.Rooms.{HasRoom};
 ghost use Rattle.edge_kit.specs.Seen.{LeafSeen};
 ghost use Rattle.writer_pool.specs.Sealing.{EndsIn, EndsAt, EndsOn, leaf_at};
-ghost use Rattle.writer_pool.specs.Working.{own_events};
+ghost use Rattle.card_worker.specs.Working.{own_events};
 
 use crate::path_ends::PathEnds;
-use crate::written::{Written, write_card};
+use card_worker::laws::a_claimed_card_may_be_written;
+use card_worker::{Written, write_card};
 use checkout_book::book::{Book, Pass};
 use checkout_book::ended::Ended;
 use checkout_book::reserved_cards::finish;
@@ -46,6 +47,7 @@ pub(crate) fn close_rest<B: Blob, L: Leaf>(alloc: Global, ended: &mut Ended<B, L
     laws::a_claim_takes_its_path();
     laws::a_close_closes_its_path();
     laws::a_history_is_short();
+    a_claimed_card_may_be_written::<B, L>();
     while let Some(card) = ended.take_waiting() {
         let Written { card, own } = write_card(alloc, card);
         ended.close(card, own);

@@ -8,11 +8,11 @@ ghost use Rattle.writer_pool.specs.Pools.{AreSeeds, AreStartersBack, AreTalks, s
 
 use crate::back::{Back, back_room, came_back};
 use crate::begun::begin_pool;
-use crate::hand::Gathering;
 use crate::jobs::act_all;
 use crate::path_ends::{PathEnds, room_for};
 use crate::pool_end::{end_all, leave};
 use crate::pooled::{DeskSeed, Pooled};
+use card_worker::Gathering;
 use checkout_core::Start;
 use convert_plan::Card;
 use core_laws::laws;

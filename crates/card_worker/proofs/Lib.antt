@@ -1,0 +1,5 @@
+pub mod TurnSteps
+pub mod WorkTurns
+pub mod FourLemmas
+pub mod HeldCards
+pub mod Hands
