@@ -29,9 +29,8 @@ use Rattle.card_worker.specs.declared.held.Held.{Held}
 use Rattle.card_worker.specs.declared.written.Written.{Written}
 use Rattle.card_worker.specs.Fours.{items}
 use Rattle.card_worker.specs.Turns.{TurnSteps}
-use Rattle.card_worker.specs.Holding.{HoldsCard, WritesHeld, Shift, paths_in, claims_in, IsClaimed, IsHeld, AreHeld, IsHand, IsInHand, SawNone, SameHeld, AreSame, IsToBeWritten, IsWrittenSo}
-use Rattle.card_worker.specs.Working.{IsReady, Worked, Idled, own_events}
-use Rattle.card_worker.specs.Writing.{IsToWrite}
+use Rattle.card_worker.specs.Holding.{HoldsCard, WritesHeld, Shift, paths_in, claims_in, IsHeld, AreHeld, IsHand, IsInHand, SawNone, AreSame, IsToBeWritten, IsWrittenSo}
+use Rattle.card_worker.specs.Working.{IsReady, Idled, own_events}
 use Rattle.card_worker.proofs.TurnSteps.{claims_more, closes_more}
 use Rattle.card_worker.proofs.WorkTurns.{begins_trans, noted_more, planned_to_write, held_may_close, out_again, shown, shown_more}
 

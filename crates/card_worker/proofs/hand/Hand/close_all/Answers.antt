@@ -1,4 +1,4 @@
-use Rattle.std.proofs.Common.{◌++◌, List, ap, subst}
+use Rattle.std.proofs.Common.{◌++◌, List, subst}
 use Rattle.checkout_book.specs.Sights.{sight}
 use Rattle.card_worker.specs.declared.held.Held.{Held}
 use Rattle.card_worker.specs.Fours.{items}

@@ -1,4 +1,4 @@
-use Rattle.std.proofs.Common.{ℕ, length}
+use Rattle.std.proofs.Common.{length}
 use Rattle.checkout_book.specs.Sights.{sight}
 use Rattle.card_worker.specs.Fours.{items}
 use Rattle.card_worker.specs.Holding.{Shift, IsInHand}
