@@ -11,7 +11,7 @@ use std::io::{ErrorKind, Seek, SeekFrom};
 use std::os::unix::fs::{MetadataExt, OpenOptionsExt, symlink};
 
 /// Makes a file where nothing is, with this mode less the umask, and never through a link.
-fn create_new(rt: HostRuntime, path: &str, mode: u32) -> io::Result<File> {
+pub fn create_new(rt: HostRuntime, path: &str, mode: u32) -> io::Result<File> {
     OpenOptions::new()
         .write(true)
         .create_new(true)

@@ -7,7 +7,7 @@ ghost use Rattle.edge_kit.specs.declared.leaf_state.LeafState.TheVariants.{Fresh
 
 use crate::kinds::{FileKind, mode_of};
 use byte_path::Bytes;
-use edge_adapters::{LeafPlace, create_in_tree, empty_file, link_in_tree, remove_own};
+use edge_adapters::{LeafPlace, create_in_tree, create_new, empty_file, link_in_tree, remove_own};
 use edge_kit::{Failed, Leaf, LeafState, Mark, SendFault};
 use file_stat::stat_of;
 use git_index::Stat;
@@ -24,6 +24,10 @@ const LONGEST_LINK: usize = 4095;
 
 /// Whether a driver has run in a checkout, which may have removed files. All leaves of a worktree share it.
 pub type Driven = Arc<AtomicBool, Global>;
+
+/// Whether a leaf of this folder has made its file, so that the folder and those above it are there and are no links.
+/// The leaves of one folder share it.
+pub type FolderMade = Arc<AtomicBool, Global>;
 
 /// A plain or executable file or a link that a worktree will have. The first piece makes a file, with the permissions
 /// that it is to have. The text of a link is kept in memory until the seal makes the link.
@@ -47,6 +51,7 @@ pub struct GitLeaf {
     pub stat: Option<Stat>,
     // whether a driver has run, which may have removed files
     driven: Driven,
+    folder: FolderMade,
 }
 
 impl GitLeaf {
@@ -57,6 +62,7 @@ impl GitLeaf {
         mark: Mark,
         kind: FileKind,
         driven: Driven,
+        folder: FolderMade,
     ) -> GitLeaf
         ensures place { result.place ≡ place }
         ensures mark { result.mark ≡ mark }
@@ -78,6 +84,7 @@ impl GitLeaf {
             error: None,
             stat: None,
             driven,
+            folder,
         }
     }
 
@@ -104,15 +111,29 @@ impl GitLeaf {
         }
     }
 
-    /// Writes the piece to the file, and makes the file first, with its mode less the umask, if this leaf has none.
+    /// Makes the file, with its mode less the umask. In a folder where a file was made nothing on the way is looked at
+    /// again until a driver has run: a folder's place can't be taken while the folder is there.
+    fn create(&self) -> io::Result<File> {
+        let mode = mode_of(self.kind);
+        if self.folder.load(Ordering::SeqCst) && !self.driven.load(Ordering::SeqCst) {
+            match create_new(self.rt, self.place.full(), mode) {
+                Err(error) if error.kind() == ErrorKind::NotFound => {}
+                made => return made,
+            }
+        }
+        let file = create_in_tree(self.rt, self.place.full(), self.place.top(), mode)?;
+        self.folder.store(true, Ordering::SeqCst);
+        Ok(file)
+    }
+
+    /// Writes the piece to the file, and makes the file first if this leaf has none.
     fn write_piece(&mut self, piece: &[u8]) -> io::Result<()>
         ensures kept { self.new ≡ record self.old { file = self.new.file } }
         ensures unmade { self.new.file ≡ None → self.old.file ≡ None }
     {
-        let mode = mode_of(self.kind);
         let mut file = match self.file.take() {
             Some(file) => file,
-            None => create_in_tree(self.rt, self.place.full(), self.place.top(), mode)?,
+            None => self.create()?,
         };
         let written = file.write_all(piece);
         self.file = Some(file);

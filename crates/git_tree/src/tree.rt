@@ -4,7 +4,7 @@ ghost use Rattle.edge_adapters.specs.Paths.{path_in};
 ghost use Rattle.git_tree.specs.Kinds.{kind_of};
 
 use crate::kinds::{Keeps, kind_of};
-use crate::leaf::{Driven, GitLeaf};
+use crate::leaf::{Driven, FolderMade, GitLeaf};
 use byte_path::Bytes;
 use edge_adapters::{LeafPlace, WriteErrors, holds_nothing};
 use edge_kit::{Failed, LeafState, Mark, Worktree};
@@ -12,6 +12,22 @@ use git_index::Stat;
 use std::alloc::{AllocError, Global};
 use std::io::ErrorKind;
 use std::sync::Arc;
+use std::sync::atomic::AtomicBool;
+
+/// The folder of the leaf that was given last, below the worktree's.
+#[derive(Drop)]
+struct LastFolder {
+    path: String,
+    made: FolderMade,
+}
+
+/// The path of a path's folder, which is empty at the top.
+fn folder_of(path: &str) -> &str {
+    match path.rsplit_once('/') {
+        Some((folder, _)) => folder,
+        None => "",
+    }
+}
 
 /// A folder that a checkout fills as git does, with executable files and links.
 #[derive(Drop)]
@@ -27,6 +43,7 @@ pub struct GitTree {
     driven: Driven,
     // what the leaves that were given back failed for
     errors: WriteErrors,
+    last: Option<LastFolder>,
     // whether it is asked what an index tells of the files
     looks: bool,
     // that, and which of the leaves that were given back it is
@@ -53,6 +70,7 @@ impl GitTree {
             returned: Vec::new(alloc),
             driven,
             errors: WriteErrors::new(alloc),
+            last: None,
             looks: false,
             stats: Vec::new(alloc),
         }
@@ -82,8 +100,25 @@ impl GitTree {
         &self.errors
     }
 
-    /// A leaf for what this path will have, by its mark.
-    fn made(&self, path: &str, mark: Mark) -> Result<GitLeaf, AllocError>
+    /// What the leaves of the path's folder share. Paths come in order, so a folder's come together.
+    fn shared_of(&mut self, path: &str) -> Result<FolderMade, AllocError>
+        ensures { self.new ≡ record self.old { last = self.new.last } }
+    {
+        let folder = folder_of(path);
+        if let Some(last) = &self.last
+            && last.path.as_str() == folder
+        {
+            return Arc::try_clone(&last.made);
+        }
+        let made = Arc::new(self.alloc, AtomicBool::new(false))?;
+        let shared = Arc::try_clone(&made)?;
+        let path = String::from_str(self.alloc, folder)?;
+        self.last = Some(LastFolder { path, made });
+        Ok(shared)
+    }
+
+    /// A leaf for what this path will have, by its mark, in a folder that shares this.
+    fn made(&self, path: &str, mark: Mark, folder: FolderMade) -> Result<GitLeaf, AllocError>
         ensures path { IfOk result (λ l. l.place.path ≡ path.now) }
         ensures full { IfOk result (λ l.
             l.place.full ≡ path_in (string_bytes self.now.folder) path.now) }
@@ -95,7 +130,7 @@ impl GitTree {
         let place = LeafPlace::new(self.alloc, self.folder.as_str(), path)?;
         let driven = Arc::try_clone(&self.driven)?;
         let kind = kind_of(self.keeps, mark);
-        let mut leaf = GitLeaf::new(self.rt, place, mark, kind, driven);
+        let mut leaf = GitLeaf::new(self.rt, place, mark, kind, driven, folder);
         if self.looks {
             leaf.stat = Some(Stat::NONE);
         }
@@ -137,7 +172,8 @@ impl Worktree for GitTree {
     }
 
     fn leaf_for(&mut self, path: &str, mark: Mark) -> Result<GitLeaf, AllocError> {
-        let leaf = self.made(path, mark)?;
+        let folder = self.shared_of(path)?;
+        let leaf = self.made(path, mark, folder)?;
         self.errors.reserve()?;
         if self.looks {
             self.stats.reserve(self.out.saturating_add(1))?;
