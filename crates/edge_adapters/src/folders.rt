@@ -1,4 +1,4 @@
-//! Makes a file or a link below the worktree's folder, and its folders.
+//! Makes a file, a link or a folder below the worktree's folder, and the folders above it.
 //!
 //! Each folder on the way is looked at first, and a link is a fault, even if it leads to a folder. The file or the
 //! link itself is made only where nothing is, so never through a link. The look and what follows are two calls, since
@@ -94,6 +94,13 @@ pub fn link_in_tree(rt: HostRuntime, text: &str, path: &str, top: usize) -> io::
     }
     make_tree(rt, path, top)?;
     link_below(rt, text, path, top)
+}
+
+/// Makes a folder unless one is there, and those on the way, as `create_in_tree` does.
+pub fn folder_in_tree(rt: HostRuntime, path: &str, top: usize) -> io::Result<()> {
+    make_tree(rt, path, top)?;
+    make_folders(rt, path, top)?;
+    make_folder(rt, path)
 }
 
 /// Empties an open file and goes back to its beginning.

@@ -28,7 +28,9 @@ pub use file_leaf::FileLeaf;
 pub use folder_look::holds_nothing;
 pub use folder_repo::{FolderBlob, FolderRepo};
 pub use folder_tree::FolderTree;
-pub use folders::{create_in_tree, create_new, empty_file, link_in_tree, remove_own};
+pub use folders::{
+    create_in_tree, create_new, empty_file, folder_in_tree, link_in_tree, remove_own,
+};
 pub use leaf_place::LeafPlace;
 pub use output_sink::OutputSink;
 pub use paths::path_in;

@@ -1,6 +1,8 @@
 //! A checkout from a git folder.
 use crate::engine_words::checkout_words;
 use crate::journal::journal_file;
+use crate::submodules::make_submodules;
+use byte_path::Bytes;
 use checkout_core::Event;
 use checkout_engine::{ExitStatus, run};
 use edge_adapters::ProcessSpawner;
@@ -13,7 +15,7 @@ use program_kit::{
     show_refused_path,
 };
 use siuwbren_index::{
-    end_run, end_with, index_lock, put_index, refuse_guarded, refuse_repository, show_notes,
+    allowed_submodules, end_run, end_with, index_lock, put_index, refuse_repository, show_notes,
     sink_of, updated_index,
 };
 use siuwbren_words::{CheckoutWords, ProgressChoice};
@@ -65,6 +67,8 @@ struct Beside {
     journal: Option<JournalFile>,
     /// The lock of the index, if that is to be updated.
     index: Option<IndexLock>,
+    /// The paths of the submodules that get a folder.
+    submodules: Vec<Bytes>,
 }
 
 impl Left {
@@ -105,6 +109,14 @@ fn tree_of(
     Ok((tree, driven))
 }
 
+/// Whether a checkout with this status has looked at each path.
+fn has_files(status: u8) -> bool {
+    matches!(
+        ExitStatus::of(status),
+        Some(ExitStatus::Done | ExitStatus::DoneWithFailures)
+    )
+}
+
 /// The index of a checkout with this status, if it is asked for and each path was looked at.
 fn index_after(
     rt: HostRuntime,
@@ -113,11 +125,10 @@ fn index_after(
     tree: &GitTree,
     status: u8,
 ) -> Result<Option<Vec<u8>>, AllocError> {
-    match ExitStatus::of(status) {
-        Some(ExitStatus::Done | ExitStatus::DoneWithFailures) if asked.update_index => {
-            updated_index(rt, repo, tree.stats()?.as_slice())
-        }
-        _ => Ok(None),
+    if asked.update_index && has_files(status) {
+        updated_index(rt, repo, tree.stats()?.as_slice())
+    } else {
+        Ok(None)
     }
 }
 
@@ -190,8 +201,15 @@ fn check_out_all<H: Threads + Wait + Sync>(
     repo: &mut GitRepo,
     beside: Beside,
 ) -> Result<u8, AllocError> {
-    let Beside { journal, mut index } = beside;
+    let Beside {
+        journal,
+        mut index,
+        submodules,
+    } = beside;
     let left = check_out_of(rt, threads, asked, repo)?;
+    if has_files(left.status) {
+        make_submodules(rt, asked.tree, submodules.as_slice())?;
+    }
     explain(rt, left.status, asked.quiet, repo);
     let mut status = left.status;
     if let (Some(lock), Some(bytes)) = (&mut index, &left.index) {
@@ -214,12 +232,14 @@ fn check_out_words<H: Threads + Wait + Sync>(
         Ok(index) => index,
         Err(status) => return Ok(status),
     };
-    if let Some(status) = refuse_guarded(rt, repo, asked.form)? {
-        return Ok(end_with(rt, status.number()));
-    }
+    let submodules = match allowed_submodules(rt, repo, asked.form)? {
+        Ok(submodules) => submodules,
+        Err(status) => return Ok(end_with(rt, status.number())),
+    };
     let mut beside = Beside {
         journal: None,
         index,
+        submodules,
     };
     if let Some(path) = asked.journal {
         beside.journal = journal_file(rt, path)?;

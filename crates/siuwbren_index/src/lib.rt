@@ -22,6 +22,6 @@ pub use checkin_index::{CheckedIn, index_of_checkin, put_made};
 pub use ends::{end_run, end_with, show_notes};
 pub use faults::{refuse_repository, say};
 pub use kept_notes::show_kept;
-pub use own_index::{links_of, refuse_guarded};
+pub use own_index::{allowed_submodules, links_of, refuse_guarded};
 pub use update_index::{index_lock, put_index, updated_index};
 pub use worktree::{refused_tree, tree_of};

@@ -108,6 +108,40 @@ fn refuse_tree(
     }
 }
 
+/// Whether a checkout makes the entry's folder: that of a submodule, which is neither unmerged nor sparse.
+fn has_folder(entry: &Entry) -> bool {
+    matches!(entry.mode, Mode::Gitlink) && entry.stage == 0 && !entry.sparse
+}
+
+/// The paths of the submodules among these entries whose folders a checkout makes.
+fn submodules_in(alloc: Global, entries: &[Entry]) -> Result<Vec<Bytes>, AllocError> {
+    let mut paths = Vec::new(alloc);
+    for entry in entries {
+        if has_folder(entry) {
+            paths.push(Bytes::copy_of(alloc, entry.path.as_slice())?)?;
+        }
+    }
+    Ok(paths)
+}
+
+/// The paths of the submodules whose folders a checkout makes, or the status if the index is refused, as
+/// `refuse_guarded` does.
+pub fn allowed_submodules(
+    rt: HostRuntime,
+    repo: &mut GitRepo,
+    form: ReportForm,
+) -> Result<Result<Vec<Bytes>, ExitStatus>, AllocError> {
+    let guards = repo.guards();
+    let none = Vec::new(rt.alloc());
+    let Some(index) = index_of(rt, repo) else {
+        return Ok(refuse_tree(rt, repo, form)?.map_or(Ok(none), Err));
+    };
+    match refuse_entries(rt, index.entries(), guards, form)? {
+        Some(status) => Ok(Err(status)),
+        None => Ok(Ok(submodules_in(rt.alloc(), index.entries())?)),
+    }
+}
+
 /// The status if the index has a path that is one of git's own on a guarded file system: the folder `.git`, or a link
 /// `.gitmodules`. The first such entry is refused, before anything is done. So is a tree that is lacking or broken.
 pub fn refuse_guarded(
@@ -115,9 +149,5 @@ pub fn refuse_guarded(
     repo: &mut GitRepo,
     form: ReportForm,
 ) -> Result<Option<ExitStatus>, AllocError> {
-    let guards = repo.guards();
-    match index_of(rt, repo) {
-        Some(index) => refuse_entries(rt, index.entries(), guards, form),
-        None => refuse_tree(rt, repo, form),
-    }
+    Ok(allowed_submodules(rt, repo, form)?.err())
 }
