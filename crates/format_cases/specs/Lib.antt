@@ -1,4 +1,1 @@
-pub mod Answer
-pub mod Drafts
-pub mod Listing
 pub mod Task

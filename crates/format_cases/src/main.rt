@@ -3,32 +3,26 @@
 //! It prints `ok` and the name of each block of which the wanted text comes, and of any other both texts.
 //!
 //! With the argument `index` it prints what `git ls-files --stage` prints of the index on standard input, with
-//! `attributes` what `git check-attr` prints for a script of attribute files and paths (`script`), and with
-//! `conversions` what a checkout makes of the contents of a table (`task`).
+//! `attributes` what `git check-attr` prints for a script of attribute files and paths (`script` of `git_listings`), and
+//! with `conversions` what a checkout makes of the contents of a table (`task`).
 #![tactic(auto)]
 
-mod answer;
-mod attributes;
 mod cells;
-mod configs;
 mod contents;
 mod converted;
 mod digests;
-mod indexes;
 mod line_ends;
-mod listing;
 mod patterns;
 mod reports;
-mod script;
 mod states;
-mod storing;
+mod stored_forms;
 mod task;
 mod texts;
-mod views;
 mod words;
 
 use byte_path::{quote_path, unmarked};
 use case_kit::{Block, Cases, Cell, Words, found, given, number_of, report_files, unknown};
+use git_listings::{attributes, configs, indexes, script, views};
 use std::alloc::Global;
 use std::io::{Read, Write};
 use std::test::Fail;
@@ -150,8 +144,8 @@ fn five_read(alloc: Global, form: Five, cells: [&[u8]; 5]) -> Result<Vec<u8>, Fa
     let [a, b, c, d, e] = cells;
     match form {
         Five::Decided => line_ends::decided(alloc, [a, b, c], d, e),
-        Five::Stored => storing::stored(alloc, a, [b, c, d, e]),
-        Five::Placed => storing::placed(alloc, a, [b, c], [d, e]),
+        Five::Stored => stored_forms::stored(alloc, a, [b, c, d, e]),
+        Five::Placed => stored_forms::placed(alloc, a, [b, c], [d, e]),
     }
 }
 

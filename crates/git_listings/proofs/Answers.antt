@@ -2,7 +2,7 @@
 use Rattle.std.proofs.Common.{◌≡◌, ℕ, ◌+◌, ◌<◌, List, [], ◌∷◌, ◌++◌, length, take, get_or, sym, ◌∙◌, ap, arith, append_assoc}
 use Rattle.std.proofs.lemmas.List.{append-nil, take_more, length-take-le}
 use Rattle.attr_line.specs.declared.state.AttrState.{AttrState}
-use Rattle.format_cases.specs.Answer.{line, answer}
+use Rattle.git_listings.specs.Answer.{line, answer}
 
 answer-push : (shown : List ℕ) (names : List (List ℕ)) (states : List AttrState) (name : List ℕ) (state : AttrState) → length names ≡ length states
     → answer shown (names ++ name ∷ []) (states ++ state ∷ []) ≡ answer shown names states ++ line shown name state

@@ -1,8 +1,8 @@
 use Rattle.std.proofs.Common.{◌≡◌, ◌++◌, take, sym, ◌∙◌, ap, append_assoc}
 use Rattle.byte_path.specs.Quote.{quoted}
-use Rattle.format_cases.specs.Answer.{line, answer}
-use Rattle.format_cases.proofs.Answers.{answer-take}
-use Rattle.format_cases.proofs.answer.push_answer.Goals as goal
+use Rattle.git_listings.specs.Answer.{line, answer}
+use Rattle.git_listings.proofs.Answers.{answer-take}
+use Rattle.git_listings.proofs.answer.push_answer.Goals as goal
 
 pub loop-place-preserved : goal.loop-place-preserved
 loop-place-preserved c =

@@ -1,5 +1,5 @@
 //! What an index holds, and what is wrong with it.
-use crate::listing::listing_of;
+use crate::index_rows::listing_of;
 use case_kit::{noted, push_all, shown};
 use git_index::{Entry, read_index, spell_index};
 use std::alloc::{AllocError, Global};

@@ -10,7 +10,7 @@
 //! - `end` forgets the files and the names.
 ghost use Rattle.std.specs.Prelude.{◌≡◌, ◌++◌, IfOk, OnOk};
 ghost use Rattle.std.specs.List.{flat_map};
-ghost use Rattle.format_cases.specs.Drafts.{files_at, files_of};
+ghost use Rattle.git_listings.specs.Drafts.{files_at, files_of};
 
 use crate::answer::answer_with;
 use attr_line::{AttrContent, AttrFile, read_attributes};

@@ -1,7 +1,7 @@
 use Rattle.std.proofs.Common.{◌≡◌, take}
 use Rattle.std.specs.List.{flat_map}
-use Rattle.format_cases.specs.Drafts.{files_of}
-use Rattle.format_cases.proofs.script.folders_of.Given as goal
+use Rattle.git_listings.specs.Drafts.{files_of}
+use Rattle.git_listings.proofs.script.folders_of.Given as goal
 
 abbrev pub invariant-loop-draft : goal.invariant-loop-draft
 invariant-loop-draft l = l.files.items ≡ flat_map files_of (take l.draft-index l.drafts)

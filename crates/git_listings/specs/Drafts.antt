@@ -2,9 +2,9 @@
 use Rattle.std.specs.Prelude.{ℕ, ◌==◌, List, [], ◌∷◌, length}
 use Rattle.attr_line.specs.File.{attributes_at}
 use Rattle.attr_stack.specs.declared.files.FileAt.{FileAt}
-use Rattle.format_cases.specs.declared.script.Draft.{Draft}
-use Rattle.format_cases.specs.declared.script.Place.{Place}
-use Rattle.format_cases.specs.declared.script.Place.TheVariants.{Info, Base, Folder}
+use Rattle.git_listings.specs.declared.script.Draft.{Draft}
+use Rattle.git_listings.specs.declared.script.Place.{Place}
+use Rattle.git_listings.specs.declared.script.Place.TheVariants.{Info, Base, Folder}
 
 -- a folder's draft gives its attribute file; the top folder has the empty name
 abbrev pub files_at : List ℕ → Place → List FileAt

@@ -1,7 +1,7 @@
 //! The lines that `git ls-files --stage` prints.
 ghost use Rattle.std.specs.Prelude.{◌≡◌, ◌++◌, OnOk, IfOk};
 ghost use Rattle.std.specs.List.{flat_map};
-ghost use Rattle.format_cases.specs.Listing.{octal, line};
+ghost use Rattle.git_listings.specs.IndexRows.{octal, line};
 
 use byte_path::quote_path;
 use git_index::{Entry, Mode};

@@ -1,7 +1,7 @@
 //! The lines of an answer, as `git check-attr` prints them.
 ghost use Rattle.std.specs.Prelude.{◌≡◌, ◌++◌, IfOk, OnOk, length};
 ghost use Rattle.byte_path.specs.Quote.{quoted};
-ghost use Rattle.format_cases.specs.Answer.{state_text, line, answer};
+ghost use Rattle.git_listings.specs.Answer.{state_text, line, answer};
 
 use attr_line::AttrState;
 use byte_path::{Bytes, quote_path};
