@@ -47,8 +47,7 @@ close-requires-clause-out g c =
     let h = in_hand see c.a_claim_takes_its_path.ensures c.loop-card.ended.shelf c.take_waiting.new.self.shelf
     c.in-Some.card q.goes_on c.in-Some.ensures.some in
     subst (λ (d : BookPlan g.row.B.Denot g.row.L.Denot). IsOut see (cards_of d) c.write_card-card.result.card)
-    (sym c.in-Some.ensures.some.turned.plan)
-    (
+    (sym c.in-Some.ensures.some.turned.plan) (
       h.planned.0,
       h.planned.1,
       h.planned.2,
