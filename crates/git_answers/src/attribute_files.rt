@@ -1,12 +1,13 @@
 //! The attribute files of the system and of the user, which decide where no other does (gitattributes(5)).
 ghost use Rattle.edge_kit.specs.Told.{Untold, Takes};
 
+use crate::finding::FoundRepository;
 use crate::git::{Answer, Git, fault_of};
 use crate::listing::SettingsList;
-use crate::notes::worktree_of;
 use byte_path::unmarked;
 use edge_adapters::read_whole;
 use edge_kit::TakeFault;
+use std::alloc::AllocError;
 use std::env::var;
 use std::fs::metadata;
 use std::io;
@@ -42,26 +43,29 @@ fn variable(git: &Git, name: &str) -> Option<String> {
     }
 }
 
-/// Where the system's file is, if it is to be read.
-fn system_path(git: &Git, listing: &SettingsList) -> io::Result<Option<String>> {
-    let answer = git.ask(&["var", "GIT_ATTR_SYSTEM"])?;
-    if let Some(path) = path_said(git, &answer)? {
-        return Ok(path);
-    }
+/// Where the system's file is, if it is to be read. A git that can't say it isn't asked.
+fn system_path(
+    git: &Git,
+    found: &FoundRepository,
+    listing: &SettingsList,
+) -> io::Result<Option<String>> {
     if listing.no_system {
         return Ok(None);
+    }
+    if !found.is_silent {
+        let answer = git.ask(&["var", "GIT_ATTR_SYSTEM"])?;
+        if let Some(path) = path_said(git, &answer)? {
+            return Ok(path);
+        }
     }
     Ok(Some(String::from_str(git.alloc, SYSTEM)?))
 }
 
 /// A path as git looks for it, which goes to the top of the worktree first.
-fn from_top(git: &Git, path: String) -> io::Result<String> {
-    if path.as_str().starts_with('/') {
-        return Ok(path);
-    }
-    match worktree_of(git)? {
-        Some(top) => Ok(format!(in git.alloc; "{top}/{path}")?),
-        None => Ok(path),
+fn from_top(git: &Git, found: &FoundRepository, path: String) -> Result<String, AllocError> {
+    match &found.top {
+        Some(top) if !path.as_str().starts_with('/') => format!(in git.alloc; "{top}/{path}"),
+        _ => Ok(path),
     }
 }
 
@@ -76,19 +80,46 @@ fn default_path(git: &Git) -> io::Result<Option<String>> {
     }
 }
 
-/// Where a setting or the variables say that the user's file is.
-fn named_path(git: &Git, listing: &SettingsList) -> io::Result<Option<String>> {
-    if listing.last(b"core.attributesfile").is_none() {
-        return default_path(git);
+/// A path of a setting that git doesn't change but for the home at its front, if it is such a one.
+fn plain_path(git: &Git, value: &[u8]) -> Result<Option<String>, AllocError> {
+    let Ok(text) = str::from_utf8(value) else {
+        return Ok(None);
+    };
+    if text.starts_with('/') {
+        return Ok(Some(String::from_str(git.alloc, text)?));
+    }
+    match (text.strip_prefix("~/"), variable(git, "HOME")) {
+        (Some(rest), Some(home)) => Ok(Some(format!(in git.alloc; "{home}/{rest}")?)),
+        _ => Ok(None),
+    }
+}
+
+/// Where this setting says that the user's file is.
+fn set_path(git: &Git, value: &[u8]) -> io::Result<Option<String>> {
+    if let Some(path) = plain_path(git, value)? {
+        return Ok(Some(path));
     }
     let answer = git.ask(&["config", "--type=path", "--get", "core.attributesFile"])?;
     Ok(path_said(git, &answer)?.flatten())
 }
 
+/// Where a setting or the variables say that the user's file is.
+fn named_path(git: &Git, listing: &SettingsList) -> io::Result<Option<String>> {
+    match listing.last(b"core.attributesfile") {
+        Some(Some(value)) => set_path(git, value),
+        Some(None) => Ok(None),
+        None => default_path(git),
+    }
+}
+
 /// Where the user's file is, if there may be one.
-fn user_path(git: &Git, listing: &SettingsList) -> io::Result<Option<String>> {
+fn user_path(
+    git: &Git,
+    found: &FoundRepository,
+    listing: &SettingsList,
+) -> io::Result<Option<String>> {
     match named_path(git, listing)? {
-        Some(path) => Ok(Some(from_top(git, path)?)),
+        Some(path) => Ok(Some(from_top(git, found, path)?)),
         None => Ok(None),
     }
 }
@@ -118,13 +149,14 @@ fn file_at(git: &Git, path: io::Result<Option<String>>, limit: u64) -> Result<Ve
 /// (U+FEFF).
 pub fn base_attributes(
     git: &Git,
+    found: &FoundRepository,
     listing: &SettingsList,
     limit: u64,
 ) -> Result<Option<Vec<u8>>, TakeFault>
     ensures { Takes Untold limit result }
 {
-    let system = file_at(git, system_path(git, listing), limit)?;
-    let user = file_at(git, user_path(git, listing), limit)?;
+    let system = file_at(git, system_path(git, found, listing), limit)?;
+    let user = file_at(git, user_path(git, found, listing), limit)?;
     if system.is_empty() && user.is_empty() {
         return Ok(None);
     }

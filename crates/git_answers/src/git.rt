@@ -152,18 +152,28 @@ impl Git {
         Ok(command)
     }
 
-    /// What git with these words gives. What it writes on standard error is kept.
-    pub fn ask(&self, words: &[&str]) -> io::Result<Answer> {
+    /// What a process of git gives. What it writes on standard error is kept.
+    fn answer_of(&self, mut command: Command) -> io::Result<Answer> {
         let Output {
             status,
             stdout,
             stderr,
-        } = self.command(words)?.output(&self.rt)?;
+        } = command.output(&self.rt)?;
         Ok(Answer {
             status: status.code(),
             bytes: stdout,
             said: stderr,
         })
+    }
+
+    /// What git with these words gives.
+    pub fn ask(&self, words: &[&str]) -> io::Result<Answer> {
+        self.answer_of(self.command(words)?)
+    }
+
+    /// What git with these words and then those gives.
+    pub fn ask_more(&self, words: &[&str], more: &[&str]) -> io::Result<Answer> {
+        self.answer_of(self.command_with(words, more)?)
     }
 
     /// Runs git with these words over another index, which it writes whole, and returns whether it ended well. What it

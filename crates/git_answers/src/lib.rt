@@ -13,7 +13,7 @@ mod notes;
 
 pub use attribute_files::base_attributes;
 pub use fault::GitFault;
-pub use finding::{FoundRepository, find, list, object_of, tree_by_git};
-pub use git::{Answer, Git, fault_of};
+pub use finding::{FoundRepository, find, list, tree_by_git};
+pub use git::{Answer, Git, copy_of, fault_of};
 pub use listing::SettingsList;
-pub use notes::{notes_of, place_of, word_of, worktree_of};
+pub use notes::{Met, notes_of, place_of, word_of};

@@ -103,6 +103,18 @@ fn says_no(value: &[u8]) -> bool {
         || value.eq_ignore_ascii_case(b"off")
 }
 
+/// Whether one of the usual values of a switch is on. `None` for each other one.
+pub fn plain_switch(value: &[u8]) -> Option<bool> {
+    if says_no(value) {
+        return Some(false);
+    }
+    let is_on = value == b"1".as_slice()
+        || value.eq_ignore_ascii_case(b"true")
+        || value.eq_ignore_ascii_case(b"yes")
+        || value.eq_ignore_ascii_case(b"on");
+    if is_on { Some(true) } else { None }
+}
+
 /// How many bytes a value says: a number, with `k`, `m` or `g` at its end so many times 1,024 (git-config(1)).
 fn size_said(value: &[u8]) -> Option<u64> {
     let (digits, unit) = match value {

@@ -1,6 +1,7 @@
 //! What is to be said of a repository beside the report, and where its drivers run.
-use crate::git::{Git, copy_of};
-use byte_path::quote_path;
+use crate::finding::FoundRepository;
+use crate::git::Git;
+use byte_path::{Bytes, quote_path};
 use edge_adapters::DriverPlace;
 use std::alloc::{AllocError, Global};
 use std::env::var;
@@ -21,42 +22,17 @@ fn text_of(alloc: Global, bytes: &[u8]) -> Result<String, AllocError> {
     }
 }
 
-/// The path of a row of `git ls-files --stage -z` with an entry of the second stage.
-fn second_stage(row: &[u8]) -> Option<&[u8]> {
-    let (told, path) = cut(row, b'\t')?;
-    if told.ends_with(b" 2") {
-        Some(path)
-    } else {
-        None
-    }
-}
-
-fn cut(bytes: &[u8], at: u8) -> Option<(&[u8], &[u8])> {
-    let place = bytes.iter().position(|byte| *byte == at)?;
-    let (front, rest) = bytes.split_at(place);
-    let (_, behind) = rest.split_at(1);
-    Some((front, behind))
-}
-
-/// The attribute files that git reads at their second stage.
-const UNMERGED: [&str; 6] = [
-    "ls-files",
-    "--unmerged",
-    "-z",
-    "--full-name",
-    "--",
-    ":(top,glob)**/.gitattributes",
-];
-
-fn add_unmerged(git: &Git, notes: &mut Vec<String>) -> Result<(), AllocError> {
-    let rows = said(git, UNMERGED.as_slice())?;
-    for row in rows.split(|byte| *byte == 0) {
-        if let Some(path) = second_stage(row) {
-            let path = text_of(git.alloc, path)?;
-            notes.push(format!(in git.alloc;
-                "{path} is unmerged: git reads its second stage, and this program none"
-            )?)?;
-        }
+/// Names the attribute files that git reads at their second stage.
+fn add_unmerged(
+    alloc: Global,
+    unmerged: &[Bytes],
+    notes: &mut Vec<String>,
+) -> Result<(), AllocError> {
+    for path in unmerged {
+        let path = text_of(alloc, path.as_slice())?;
+        notes.push(format!(in alloc;
+            "{path} is unmerged: git reads its second stage, and this program none"
+        )?)?;
     }
     Ok(())
 }
@@ -176,51 +152,43 @@ fn add_replaced(
     Ok(())
 }
 
-/// What is to be said of a repository: of its own index if no tree was read in its place, of the objects that a clone
-/// of part of this remote lacks, and of those that were given back, if some may be replaced.
+/// What was met in a repository that git would take otherwise.
+#[derive(Clone, Copy)]
+pub struct Met<'a> {
+    /// The attribute files of its index that have a second stage.
+    pub unmerged: &'a [Bytes],
+    /// The names of objects that aren't there.
+    pub absent: &'a [[u8; 20]],
+    /// The objects that were given back, if some may be replaced.
+    pub returned: Option<&'a [([u8; 20], u64)]>,
+}
+
+/// What is to be said of a repository, of which this was met: of its own index or of this tree, and of the objects that
+/// a clone of part of this remote lacks.
 pub fn notes_of(
     git: &Git,
     tree: Option<&str>,
     remote: Option<&[u8]>,
-    absent: &[[u8; 20]],
-    replaced: Option<&[([u8; 20], u64)]>,
+    met: Met<'_>,
 ) -> Result<Vec<String>, AllocError> {
     let mut notes = Vec::new(git.alloc);
-    if tree.is_none() {
-        add_unmerged(git, &mut notes)?;
-    }
+    add_unmerged(git.alloc, met.unmerged, &mut notes)?;
     if let Some(remote) = remote {
-        if !absent.is_empty() {
-            notes.push(lack_of(git, remote, tree, absent)?)?;
+        if !met.absent.is_empty() {
+            notes.push(lack_of(git, remote, tree, met.absent)?)?;
         }
     }
-    if let Some(returned) = replaced {
+    if let Some(returned) = met.returned {
         add_replaced(git, returned, &mut notes)?;
     }
     Ok(notes)
 }
 
-/// The top of the worktree, unless git names none.
-pub fn worktree_of(git: &Git) -> Result<Option<String>, AllocError> {
-    let top = said(git, &["rev-parse", "--show-toplevel"])?;
-    match str::from_utf8(top.as_slice()) {
-        Ok(text) => copy_of(git.alloc, text.strip_suffix("\n")),
-        Err(_) => Ok(None),
-    }
-}
-
-/// The folder in which git runs drivers: the top of the worktree, or the Git folder of a repository without one.
-fn folder_of(git: &Git, git_dir: &str) -> Result<String, AllocError> {
-    match worktree_of(git)? {
-        Some(top) => Ok(top),
-        None => String::from_str(git.alloc, git_dir),
-    }
-}
-
-/// Where git runs the drivers of this repository. The Git folder is named if git wouldn't find it there by its usual
-/// name, or would look for another one.
-pub fn place_of(git: &Git, git_dir: &str) -> Result<DriverPlace, AllocError> {
-    let folder = folder_of(git, git_dir)?;
+/// Where git runs the drivers of this repository: at the top of the worktree, or in the Git folder of a repository
+/// without one. The Git folder is named if git wouldn't find it there by its usual name, or would look for another one.
+pub fn place_of(git: &Git, found: &FoundRepository) -> Result<DriverPlace, AllocError> {
+    let git_dir = found.git_dir.as_str();
+    let folder = String::from_str(git.alloc, found.top.as_deref().unwrap_or(git_dir))?;
     let usual = format!(in git.alloc; "{folder}/.git")?;
     let is_found = usual.as_str() == git_dir && var(&git.rt, "GIT_DIR").is_err();
     let git_dir = if is_found {

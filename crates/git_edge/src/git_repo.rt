@@ -8,12 +8,14 @@ use crate::index_file::own_index;
 use crate::index_lock::IndexLock;
 use crate::lender::lender_of;
 use crate::object_pool::ObjectPool;
+use crate::unmerged::unmerged_in;
 use crate::wanted_tree::{IndexLack, WantedTree};
+use byte_path::Bytes;
 use edge_adapters::{DriverPlace, read_whole};
 use edge_kit::{Repo, TakeFault};
 use git_answers::{
-    FoundRepository, Git, GitFault, SettingsList, base_attributes, find, list, notes_of, place_of,
-    word_of, worktree_of,
+    FoundRepository, Git, GitFault, Met, SettingsList, base_attributes, copy_of, find, list,
+    notes_of, place_of, word_of,
 };
 use git_tree::Keeps;
 use std::alloc::{AllocError, Global};
@@ -68,7 +70,7 @@ impl GitRepo {
         revision: Option<&str>,
     ) -> Result<GitRepo, GitFault> {
         let git = Git::new(rt, program, git_dir)?;
-        let found = find(&git)?;
+        let found = find(&git, revision)?;
         let listing = list(&git)?;
         let pool = lender_of(&git, &found, &listing)?;
         let tree = match revision {
@@ -123,7 +125,7 @@ impl GitRepo {
 
     /// The absolute path of its worktree's top, if it has a worktree.
     pub fn worktree(&self) -> Result<Option<String>, AllocError> {
-        worktree_of(&self.git)
+        copy_of(self.git.alloc, self.found.top.as_deref())
     }
 
     /// The shell's command that puts an index in place of its own.
@@ -162,7 +164,7 @@ impl GitRepo {
 
     /// Where git runs the drivers of its paths.
     pub fn driver_place(&self) -> Result<DriverPlace, AllocError> {
-        place_of(&self.git, self.found.git_dir.as_str())
+        place_of(&self.git, &self.found)
     }
 
     /// What is to be said of it once its blobs are given back, each in a line without its end: attribute files that are
@@ -172,18 +174,26 @@ impl GitRepo {
             Some(tree) => Some(tree.name.as_str()),
             None => None,
         };
-        let replaced = if self.found.replaces {
+        let returned = if self.found.replaces {
             Some(self.returned.as_slice())
         } else {
             None
         };
-        notes_of(
-            &self.git,
-            tree,
-            self.listing.promisor(),
-            self.absent.as_slice(),
-            replaced,
-        )
+        let unmerged = self.unmerged()?;
+        let met = Met {
+            unmerged: unmerged.as_slice(),
+            absent: self.absent.as_slice(),
+            returned,
+        };
+        notes_of(&self.git, tree, self.listing.promisor(), met)
+    }
+
+    /// The attribute files of its own index that are unmerged, if that was read.
+    fn unmerged(&self) -> Result<Vec<Bytes>, AllocError> {
+        match (&self.tree, &self.index) {
+            (None, Some(index)) => unmerged_in(self.git.alloc, index.as_slice()),
+            _ => Ok(Vec::new(self.git.alloc)),
+        }
     }
 
     /// Closes the files of objects, ends the processes that give some, and waits for each. No blob may be in use.
@@ -266,7 +276,7 @@ impl Repo for GitRepo {
     }
 
     fn base_attributes(&mut self, limit: u64) -> Result<Option<Vec<u8>>, TakeFault> {
-        let taken = base_attributes(&self.git, &self.listing, limit);
+        let taken = base_attributes(&self.git, &self.found, &self.listing, limit);
         self.counted(taken)
     }
 

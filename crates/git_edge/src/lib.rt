@@ -15,6 +15,7 @@ mod lent;
 mod object_pool;
 mod object_reader;
 mod scratch;
+mod unmerged;
 mod wanted_tree;
 
 pub use git_answers::GitFault;

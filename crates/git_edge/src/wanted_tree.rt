@@ -4,7 +4,7 @@ ghost use Rattle.edge_kit.specs.Told.{Untold, Takes};
 use crate::index_file::index_by_git;
 use crate::object_pool::ObjectPool;
 use edge_kit::TakeFault;
-use git_answers::{FoundRepository, Git, GitFault, object_of, tree_by_git};
+use git_answers::{FoundRepository, Git, GitFault, tree_by_git};
 use git_commit::{TreeIndex, index_of, root_tree};
 use std::alloc::AllocError;
 use std::io;
@@ -34,10 +34,9 @@ fn name_in(digits: &str) -> Option<[u8; 20]> {
     }
 }
 
-/// The tree of a commit or a tag that git names, or the tree that it names, as the objects have it.
-fn tree_here(git: &Git, pool: &ObjectPool, revision: &str) -> Result<Option<String>, GitFault> {
-    let object = object_of(git, revision)?;
-    let Some(name) = name_in(object.as_str()) else {
+/// The tree of the commit or the tree with this name in hex, as the objects have it.
+fn tree_here(git: &Git, pool: &ObjectPool, object: &str) -> Result<Option<String>, AllocError> {
+    let Some(name) = name_in(object) else {
         return Ok(None);
     };
     match root_tree(pool, &name) {
@@ -47,7 +46,7 @@ fn tree_here(git: &Git, pool: &ObjectPool, revision: &str) -> Result<Option<Stri
 }
 
 impl WantedTree {
-    /// The tree of a revision: git resolves the name, and says what it is of where the objects don't.
+    /// The tree of a revision, whose object was found: git says what that is of where the objects don't.
     pub fn of(
         git: &Git,
         found: &FoundRepository,
@@ -55,8 +54,8 @@ impl WantedTree {
         revision: &str,
     ) -> Result<WantedTree, GitFault> {
         let is_for_git = found.replaces;
-        if !is_for_git {
-            if let Some(name) = tree_here(git, pool, revision)? {
+        if let (false, Some(object)) = (is_for_git, &found.object) {
+            if let Some(name) = tree_here(git, pool, object.as_str())? {
                 return Ok(WantedTree { name, is_for_git });
             }
         }

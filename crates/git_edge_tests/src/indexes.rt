@@ -133,8 +133,9 @@ const NOTES: &[&str] = &[
       git update-index --index-info~d/.gitattributes is unmerged",
 ];
 
-/// The first note on a repository once the object `hi` was read.
+/// The first note on a repository once its index and the object `hi` were read.
 fn note_from(rt: HostRuntime, repo: &mut GitRepo) -> Result<String, AllocError> {
+    let _ = repo.index_bytes(1_048_576);
     let _ = read_hi(repo, 99);
     match repo.notes()?.first() {
         Some(note) => note.clone(),
