@@ -153,8 +153,8 @@ fn folder_of(path: &[u8]) -> &[u8]
 
 /// The attribute files of a repository, which contracts see as they were read.
 ///
-/// Of the folders' files only those are open that reach the paths of the folder it was asked about last. It looks at each
-/// pattern of an open file once.
+/// Of the folders' files only those are open that reach the paths of the folder it was asked about last. It looks at
+/// each pattern of an open file once.
 #[derive(Drop)]
 pub struct AttrStack {
     alloc: Global,
@@ -188,8 +188,8 @@ impl AttrStack {
     }
 
     /// The answer of `attributes_of` for these files. A folder's file is opened where a path in that folder follows one
-    /// outside it. So paths may come in any order, and in an index's order each file is opened once. After out of memory
-    /// it gives right answers all the same.
+    /// outside it. So paths may come in any order, and in an index's order each file is opened once. After out of
+    /// memory it gives right answers all the same.
     pub fn states(&mut self, path: &[u8], names: &[Bytes]) -> Result<Vec<AttrState>, AllocError>
         ensures kept { self.new ≡ self.old }
         ensures states { IfOk result (λ states. states.items ≡ map (state_of self.old path.now) names.now) }

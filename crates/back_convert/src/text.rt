@@ -33,8 +33,8 @@ fn first_sixteens<F: Form<WIDE>, const WIDE: usize>(bytes: &[u8]) -> Option<([[u
 /// So many characters are read one by one before sixteen are tried at once again.
 const FEW: u8 = 16;
 
-/// Appends the first characters of bytes, up to `most`, and gives what follows them. There are none where the bytes end,
-/// or are refused. `few` is room for them.
+/// Appends the first characters of bytes, up to `most`, and gives what follows them. There are none where the bytes
+/// end, or are refused. `few` is room for them.
 fn push_few<'a, F: Form<WIDE>, const WIDE: usize>(
     text: &mut Vec<u8>,
     few: &mut String,

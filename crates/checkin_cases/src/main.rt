@@ -1,9 +1,10 @@
 //! Check-ins in memory: what each block of a file meets, and what it leaves. Each argument is a file of blocks.
 //!
-//! A block has the kind `checkin`, and the cells that `case` names, of any number and in any order. What it leaves is the
-//! report, the status, a line for each object that was kept, with its name and its stored bytes, and a line for the
-//! index, with the name that `git hash-object` gives to it. Behind the index there is a line for each starter that was
-//! given back, with its command. Below it each start has the bytes that were sent, and whether the session was shut.
+//! A block has the kind `checkin`, and the cells that `case` names, of any number and in any order. What it leaves is
+//! the report, the status, a line for each object that was kept, with its name and its stored bytes, and a line for
+//! the index, with the name that `git hash-object` gives to it. Behind the index there is a line for each starter
+//! that was given back, with its command. Below it each start has the bytes that were sent, and whether the session
+//! was shut.
 #![tactic(auto)]
 
 mod case;

@@ -20,8 +20,8 @@ use std::os::unix::fs::MetadataExt;
 /// What was read at a path.
 #[derive(Drop)]
 pub enum FileRead {
-    /// All bytes of a file, or the text of a link, and what an index is to tell of it: what the system told of it before
-    /// it was read.
+    /// All bytes of a file, or the text of a link, and what an index is to tell of it: what the system told of it
+    /// before it was read.
     Whole(Vec<u8>, Stat),
     /// More bytes than the limit.
     TooLong,

@@ -60,8 +60,8 @@ pub struct FolderFiles {
 }
 
 impl FolderFiles {
-    /// The folder at this path, there or not. It reads nothing. A file in a link's place is taken as one, and a link in a
-    /// file's place.
+    /// The folder at this path, there or not. It reads nothing. A file in a link's place is taken as one, and a link
+    /// in a file's place.
     pub fn new(rt: HostRuntime, folder: String) -> FolderFiles
         ensures folder { result.folder ≡ folder }
         ensures seen { ⟦<FolderFiles as Files>⟧.seen result ≡ no_files_failed }

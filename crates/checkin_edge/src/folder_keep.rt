@@ -23,8 +23,8 @@ pub enum ObjectForm {
     Zlib,
 }
 
-/// A folder of objects, and the file of an index. An object's file that has the object stays, and any other is replaced.
-/// Each file gets its name once it is whole, so an index stays until the next one is.
+/// A folder of objects, and the file of an index. An object's file that has the object stays, and any other is
+/// replaced. Each file gets its name once it is whole, so an index stays until the next one is.
 #[derive(Drop)]
 pub struct FolderKeep {
     rt: HostRuntime,

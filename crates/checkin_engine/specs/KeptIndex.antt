@@ -11,7 +11,8 @@ use Rattle.checkin_paths.specs.declared.fate.Fate.TheVariants.{Same, Changed, Go
 use Rattle.checkin_paths.specs.Outside.{KeepSeen, IsKeepFailed, with_index}
 use Rattle.checkin_engine.specs.InTurn.{entries_in_turn}
 
--- The paths were looked at, and the index is kept after that. `leaves` is what a look with this end leaves of the keeper.
+-- The paths were looked at, and the index is kept after that. `leaves` is what a look with this end leaves of the
+-- keeper.
 abbrev pub KeepsAfter : (KeepSeen → Result (Vec Fate) SendFault → Type 0) → List Entry → KeepSeen
     → Result (Vec Fate) SendFault → Type 0
 KeepsAfter leaves es keep' (Ok fates) = (mid : KeepSeen) × leaves mid (Ok fates)

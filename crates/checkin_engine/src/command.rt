@@ -112,8 +112,8 @@ fn check_in<R: Repo, F: Files, P: Spawner, O: Once, K: Keep, S: Sink>(
 /// The words are the repository's folder, the worktree's folder and `checkin`. Each path of the index is looked at, in
 /// order. The file of one that has a filter driver is cleaned by it first: by the driver's `process`, or else by its
 /// `clean`, which runs once for each content. The object of a changed path is kept, then the index, and then the report
-/// is written. Each blob is taken back right after it was read, before the next path is looked at, and each starter of a
-/// driver before the index is kept.
+/// is written. Each blob is taken back right after it was read, before the next path is looked at, and each starter
+/// of a driver before the index is kept.
 ///
 /// It returns 0, or 1 if some path failed. 2 if the words are no check-in, 3 if the repository is refused, 4 if the
 /// keeper or the sink failed, 5 if out of memory, and 6 if a read of the repository failed.

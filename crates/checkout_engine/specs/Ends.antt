@@ -138,8 +138,8 @@ pub record IsIdle (old new : Seen) : Type 0 where
   pub untouched : IsUntouched old new
   pub silent : new.sink ≡ old.sink
 
--- How a report ends as memory ran out: while it was written, at the end of a line; or for some path before that, and then
--- it was written whole, or the sink failed.
+-- How a report ends as memory ran out: while it was written, at the end of a line; or for some path before that, and
+-- then it was written whole, or the sink failed.
 abbrev pub EndsReport : List ℕ → List Verdict → SinkSeen → SinkSeen → Type 0
 EndsReport text verdicts old new =
     IsLineCut text old new

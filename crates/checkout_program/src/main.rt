@@ -1,8 +1,8 @@
 //! Checks out the index of a Git folder with uncompressed objects into an empty folder, by its configuration and its
 //! attributes, or shows the plan of that, or checks the files in again. It also writes and judges journals.
 //!
-//! Standard error says in one line why a status isn't that of a report; beside it drivers write there. A checkout writes
-//! its journal if the environment names a file for it.
+//! Standard error says in one line why a status isn't that of a report; beside it drivers write there. A checkout
+//! writes its journal if the environment names a file for it.
 #![tactic(auto)]
 
 ghost use Rattle.std.specs.Prelude.{◌≡◌, IfOk, option_map, string_bytes};

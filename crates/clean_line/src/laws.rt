@@ -10,8 +10,8 @@ pub fn turns_are_talks()
     ensures { TurnsAreTalks }
 {}
 
-/// Two talks over the same paths with the same contents, whose sessions have equal outputs, have equal answers, where no
-/// link failed and memory never ran out.
+/// Two talks over the same paths with the same contents, whose sessions have equal outputs, have equal answers, where
+/// no link failed and memory never ran out.
 pub fn equal_sessions_give_equal_answers()
     ensures { EqualAnswers }
 {

@@ -1,8 +1,8 @@
 //! A rehearsal: its files in order, and what its drivers write.
 //!
 //! The kind `rehearsal` has the cells `seed`, `paths`, which is a number, and `tells`: `paths` lists the paths of the
-//! index, `contents` each path and behind a line feed its content, `drivers` each driver's command, how many bytes a read
-//! gives, and what its session writes.
+//! index, `contents` each path and behind a line feed its content, `drivers` each driver's command, how many bytes a
+//! read gives, and what its session writes.
 use case_kit::{Cell, number_of, push_all, shown, unknown};
 use edge_kit::{DriverScript, MemoryRepo, Repo, SessionScript};
 use git_index::{Entry, read_index};

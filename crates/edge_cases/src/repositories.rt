@@ -1,8 +1,8 @@
 //! A repository in memory.
 //!
-//! The kind `repository` has the cells `fails`, `reads` and `limit`. A part is `index`, `config`, `attributes`, `base`, or
-//! a digit, which is the object whose name is this number twenty times; `fails` may be `-`. The repository has an index, a
-//! configuration, attributes of the user, and three objects, of which two have one name.
+//! The kind `repository` has the cells `fails`, `reads` and `limit`. A part is `index`, `config`, `attributes`,
+//! `base`, or a digit, which is the object whose name is this number twenty times; `fails` may be `-`. The repository
+//! has an index, a configuration, attributes of the user, and three objects, of which two have one name.
 use case_kit::{Cell, number_of, shown, unknown};
 use edge_kit::{Blob, MemoryRepo, Repo, RepoFail, TakeFault};
 use std::alloc::{AllocError, Global};

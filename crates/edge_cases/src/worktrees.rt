@@ -2,7 +2,8 @@
 //!
 //! - `sink`: the cell `fails`, the number of the write that fails, and then `write`, each with a piece. What each write
 //!   answers comes, and behind it all that was written.
-//! - `leaf`: the cells `fails`, a call that fails on the leaf `a`, and `path` and `call`, a call on the leaf of this path:
+//! - `leaf`: the cells `fails`, a call that fails on the leaf `a`, and `path` and `call`, a call on the leaf of this
+//!   path:
 //!   `put`, `restart`, `seal` or `discard`. It comes whether that goes well.
 //! - `worktree`: the steps `seal` and `discard`, each with a path and behind a space a content, which are put and then
 //!   sealed or discarded, `empty`, which asks whether the worktree is empty, and `files`, which lists the paths, each with

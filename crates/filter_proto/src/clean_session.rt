@@ -100,8 +100,8 @@ impl<K: Link> CleanSession<K> {
         self.session.live()
     }
 
-    /// Asks the driver to clean a content for a path of 1 to 4,096 bytes. The content of the reply is kept in memory. If
-    /// there is no room for it, the rest of the reply is read and dropped.
+    /// Asks the driver to clean a content for a path of 1 to 4,096 bytes. The content of the reply is kept in memory.
+    /// If there is no room for it, the rest of the reply is read and dropped.
     pub fn ask(&mut self, path: &[u8], content: &[u8]) -> Cleaned
         requires live { self.old.standing ≡ Standing.Live }
         requires some { 1 ≤ length path.now }

@@ -3,8 +3,8 @@
 //! It prints `ok` and the name of each block of which the wanted text comes, and of any other both texts.
 //!
 //! With the argument `index` it prints what `git ls-files --stage` prints of the index on standard input, with
-//! `attributes` what `git check-attr` prints for a script of attribute files and paths (`script` of `git_listings`), and
-//! with `conversions` what a checkout makes of the contents of a table (`task`).
+//! `attributes` what `git check-attr` prints for a script of attribute files and paths (`script` of `git_listings`),
+//! and with `conversions` what a checkout makes of the contents of a table (`task`).
 #![tactic(auto)]
 
 mod cells;

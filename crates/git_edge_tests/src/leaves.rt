@@ -70,9 +70,9 @@ fn all_go(rt: HostRuntime, leaf: &mut GitLeaf, calls: &str) -> bool {
     true
 }
 
-/// What the shell does, `l` if links are kept or `-`, with `d` if a driver has run and then the seal that a leaf is made
-/// for, its path, the calls on it, and what a shell finds. A file that the shell makes has the mode of a plain file by its
-/// umask, and a folder that of a program.
+/// What the shell does, `l` if links are kept or `-`, with `d` if a driver has run and then the seal that a leaf is
+/// made for, its path, the calls on it, and what a shell finds. A file that the shell makes has the mode of a plain
+/// file by its umask, and a folder that of a program.
 const CASES: &[&str] = &[
     "|ls|a/b|+px;+s|test -f tree/a/b; test $(stat -c %a tree/a/b) = $(stat -c %a plain)",
     "|lx|a/b|+px;+x|test $(cat tree/a/b) = x; test $(stat -c %a tree/a/b) = $(stat -c %a made)",

@@ -1,5 +1,5 @@
-/// What an index tells of an entry's file, so that git needn't read it: the answer of `lstat` (gitformat-index(5)), each
-/// number cut off to its low 32 bits, and one bit of the flags.
+/// What an index tells of an entry's file, so that git needn't read it: the answer of `lstat` (gitformat-index(5)),
+/// each number cut off to its low 32 bits, and one bit of the flags.
 #[derive(Clone, Copy)]
 pub struct Stat {
     /// The last change of the file's metadata, in seconds since 1970.

@@ -103,8 +103,8 @@ impl Folders {
         Ok(())
     }
 
-    /// Adds the folder that a line names, unless it is known. What isn't there lends nothing. A path in quotes is left to
-    /// git.
+    /// Adds the folder that a line names, unless it is known. What isn't there lends nothing. A path in quotes is
+    /// left to git.
     fn add_line(&mut self, rt: HostRuntime, folder: &str, line: &str) -> Result<(), ObjectsFault> {
         if line.is_empty() || line.starts_with('#') {
             return Ok(());

@@ -53,8 +53,8 @@ pub struct GitTree {
 }
 
 impl GitTree {
-    /// The folder at this path, there or not, on a file system that keeps this. It reads nothing. Once `driven` is true,
-    /// each leaf that has a file looks whether that is still there before it is sealed.
+    /// The folder at this path, there or not, on a file system that keeps this. It reads nothing. Once `driven` is
+    /// true, each leaf that has a file looks whether that is still there before it is sealed.
     pub fn new(rt: HostRuntime, folder: String, keeps: Keeps, driven: Driven) -> GitTree
         ensures folder { result.folder ≡ folder }
         ensures keeps { result.keeps ≡ keeps }

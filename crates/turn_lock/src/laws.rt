@@ -7,7 +7,8 @@ ghost use Rattle.turn_lock.specs.Seats.{IsSeat, AreSeats, Within};
 use crate::kept::Kept;
 
 /// A seat that entered is still a seat of its lock, with its number and its data. When it has left, it is out again and
-/// has seen the history that it left. Its own entries are those of its number in that history, and it took one turn more.
+/// has seen the history that it left. Its own entries are those of its number in that history, and it took one turn
+/// more.
 pub fn a_turn_keeps_a_seat<T: Kept>()
     ensures { (lock : TableId) (d : T.Told) (number made : ℕ) (found : List (ℕ × T.Entry))
         (s t : SeatView T.Entry T.Told) → IsSeat lock d number made s → t ≡ entered found s
