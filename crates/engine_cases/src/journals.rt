@@ -2,7 +2,7 @@
 use crate::runs::play;
 use case_kit::{Cell, Words, found, number_of};
 use edge_kit::{Blob, MemoryBlob, MemoryRepo, MemorySink, Repo, RepoFail};
-use engine_world::{Watch, case_of, words_of, world_of};
+use engine_world::{Case, Watch, World, case_of, words_of, world_of};
 use journal_run::{checkout_journal, journal_run};
 use std::alloc::{AllocError, Global};
 use std::string::String;
@@ -155,6 +155,31 @@ fn judged<H: Threads + Wait + Sync>(
     Ok(seen)
 }
 
+/// What is said of the journal of a case's checkout over what it is made over, or why there is none.
+fn case_judged<H: Threads + Wait + Sync>(
+    rt: &H,
+    alloc: Global,
+    case: &Case,
+    world: &mut World,
+) -> Result<String, Fail> {
+    let status = play(rt, alloc, case, world);
+    let events = world.history.len();
+    match checkout_journal(alloc, &case.words, &mut world.repo, &world.history) {
+        Ok(journal) => judged(rt, alloc, status, events, journal),
+        Err(fault) => Ok(format!(in alloc; "{fault:?}\n")?),
+    }
+}
+
+/// What is said of the journal of a case's checkout, or why there is none.
+fn case_recorded<H: Threads + Wait + Sync>(
+    rt: &H,
+    alloc: Global,
+    case: &mut Case,
+) -> Result<String, Fail> {
+    let mut world = world_of(alloc, case)?;
+    case_judged(rt, alloc, case, &mut world)
+}
+
 /// What is said of the journal of these cells' checkout, or why there is none.
 pub fn recorded<H: Threads + Wait + Sync>(
     rt: &H,
@@ -162,11 +187,5 @@ pub fn recorded<H: Threads + Wait + Sync>(
     cells: &[Cell],
 ) -> Result<String, Fail> {
     let mut case = case_of(alloc, cells, b"")?;
-    let mut world = world_of(alloc, &mut case)?;
-    let status = play(rt, alloc, &case, &mut world);
-    let events = world.history.len();
-    match checkout_journal(alloc, &case.words, &mut world.repo, &world.history) {
-        Ok(journal) => judged(rt, alloc, status, events, journal),
-        Err(fault) => Ok(format!(in alloc; "{fault:?}\n")?),
-    }
+    case_recorded(rt, alloc, &mut case)
 }

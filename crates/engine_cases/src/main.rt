@@ -5,18 +5,12 @@
 #![tactic(auto)]
 
 mod journals;
-mod left;
-mod reports;
 mod runs;
-mod smudges;
-mod talks;
-mod work;
 
-use case_kit::{Block, Words, found, named_blocks, parted, print_verdict};
+use case_kit::{Block, Cell, Words, found, named_blocks, parted, print_verdict};
+use engine_views::{RunView, Sight, command_of, host_of, reported, run_of};
 use journals::{journal_of, recorded};
-use left::{View, ran, talked};
-use reports::reported;
-use smudges::{command_of, host_of, run_of};
+use runs::{ran, talked};
 use std::alloc::Global;
 use std::string::String;
 use std::sync::Wait;
@@ -56,6 +50,16 @@ fn bytes_of(alloc: Global, text: Result<String, Fail>) -> Result<Vec<u8>, Fail> 
     Ok(Vec::from_slice(alloc, text?.as_bytes())?)
 }
 
+/// What this view shows of the run of these cells.
+fn seen<H: Threads + Wait + Sync>(
+    rt: &H,
+    alloc: Global,
+    view: RunView,
+    cells: &[Cell],
+) -> Result<Vec<u8>, Fail> {
+    bytes_of(alloc, ran(rt, alloc, Sight { view, cells }, b""))
+}
+
 /// What comes of a block, or the error of a kind or cell that isn't known.
 fn came_of<H: Threads + Wait + Sync>(
     rt: &H,
@@ -65,9 +69,9 @@ fn came_of<H: Threads + Wait + Sync>(
     let (kind, _) = parted(&block.form);
     let cells = block.cells.as_slice();
     match found(KINDS, kind)? {
-        Kind::Run => bytes_of(alloc, ran(rt, alloc, View::Run, cells, b"")),
-        Kind::Work => bytes_of(alloc, ran(rt, alloc, View::Work, cells, b"")),
-        Kind::Counted => bytes_of(alloc, ran(rt, alloc, View::Counted, cells, b"")),
+        Kind::Run => seen(rt, alloc, RunView::Run, cells),
+        Kind::Work => seen(rt, alloc, RunView::Work, cells),
+        Kind::Counted => seen(rt, alloc, RunView::Counted, cells),
         Kind::Talk => bytes_of(alloc, talked(rt, alloc, cells)),
         Kind::Journal => bytes_of(alloc, journal_of(rt, alloc, cells)),
         Kind::Recorded => bytes_of(alloc, recorded(rt, alloc, cells)),

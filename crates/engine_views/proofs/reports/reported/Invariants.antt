@@ -1,5 +1,5 @@
 use Rattle.std.proofs.Common.{◌≡◌, length}
-use Rattle.engine_cases.proofs.reports.reported.Given as goal
+use Rattle.engine_views.proofs.reports.reported.Given as goal
 
 -- each path has its verdict
 abbrev pub invariant-loop-three : goal.invariant-loop-three

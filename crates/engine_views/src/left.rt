@@ -1,16 +1,13 @@
 //! What runs leave, and its text.
-use crate::runs::play;
 use crate::talks::push_talks;
 use crate::work::{push_asked, push_counted, push_work};
 use case_kit::Cell;
 use checkout_core::Event;
 use edge_kit::{DriverSeen, TreeFile};
-use engine_world::{Watch, case_of, world_of};
+use engine_world::{Case, Watch, World};
 use std::alloc::Global;
 use std::string::String;
-use std::sync::Wait;
 use std::test::Fail;
-use std::thread::Threads;
 
 /// What a run leaves.
 #[derive(Drop)]
@@ -28,9 +25,23 @@ pub struct Left<'a> {
     pub paths: u32,
 }
 
+/// What a case's run leaves, with this status.
+pub fn left_of<'a>(status: u8, case: &'a Case, world: &'a World) -> Left<'a> {
+    Left {
+        status,
+        output: world.out.bytes(),
+        files: world.tree.files(),
+        blobs: world.repo.blobs,
+        drivers: world.spawner.inner().drivers(),
+        gate: &case.gate,
+        history: &world.history,
+        paths: case.index.count,
+    }
+}
+
 /// What of a run is shown.
 #[derive(Clone, Copy)]
-pub enum View {
+pub enum RunView {
     /// The report, the status and the files.
     Run,
     /// The report, the status, the files, and the talk with a driver.
@@ -39,6 +50,13 @@ pub enum View {
     Work,
     /// How many files there are, and the status.
     Counted,
+}
+
+/// What of a run is shown, and the cells, some of which ask for more lines.
+#[derive(Clone, Copy)]
+pub struct Sight<'a> {
+    pub view: RunView,
+    pub cells: &'a [Cell],
 }
 
 /// Appends the lines that the cells ask for.
@@ -54,55 +72,31 @@ fn push_all_asked(
     Ok(())
 }
 
-/// The text of what a run left, and the lines that the cells ask for.
-fn said(alloc: Global, view: View, cells: &[Cell], left: &Left<'_>) -> Result<String, Fail> {
-    let mut seen = String::new(alloc);
+/// Appends the text of what a run left.
+fn push_view(alloc: Global, seen: &mut String, left: &Left<'_>, view: RunView) -> Result<(), Fail> {
     match view {
-        View::Run => push_run(&mut seen, left)?,
-        View::Talk => push_talks(&mut seen, left)?,
-        View::Work => push_work(alloc, &mut seen, left)?,
-        View::Counted => push_counted(&mut seen, left)?,
+        RunView::Run => push_run(seen, left),
+        RunView::Talk => push_talks(seen, left),
+        RunView::Work => push_work(alloc, seen, left),
+        RunView::Counted => push_counted(seen, left),
     }
-    push_all_asked(alloc, &mut seen, left, cells)?;
-    Ok(seen)
 }
 
-/// What comes of these cells, with these words, if there are any.
-pub fn ran<H: Threads + Wait + Sync>(
-    rt: &H,
+/// Appends the text of what a run left, and the lines that the cells ask for.
+fn push_sight(
     alloc: Global,
-    view: View,
-    cells: &[Cell],
-    words: &[u8],
-) -> Result<String, Fail> {
-    let mut case = case_of(alloc, cells, words)?;
-    let mut world = world_of(alloc, &mut case)?;
-    let status = play(rt, alloc, &case, &mut world);
-    let left = Left {
-        status,
-        output: world.out.bytes(),
-        files: world.tree.files(),
-        blobs: world.repo.blobs,
-        drivers: world.spawner.inner().drivers(),
-        gate: &case.gate,
-        history: &world.history,
-        paths: case.index.count,
-    };
-    said(alloc, view, cells, &left)
+    seen: &mut String,
+    left: &Left<'_>,
+    sight: Sight<'_>,
+) -> Result<(), Fail> {
+    push_view(alloc, seen, left, sight.view)?;
+    push_all_asked(alloc, seen, left, sight.cells)
 }
 
-/// What comes of these cells by one worker, and by more if another text comes of them.
-pub fn talked<H: Threads + Wait + Sync>(
-    rt: &H,
-    alloc: Global,
-    cells: &[Cell],
-) -> Result<String, Fail> {
-    let mut seen = ran(rt, alloc, View::Talk, cells, b"checkout --workers=1")?;
-    let two = ran(rt, alloc, View::Talk, cells, b"checkout --workers=2")?;
-    let many = ran(rt, alloc, View::Talk, cells, b"checkout --workers=16")?;
-    if two.as_str() != seen.as_str() || many.as_str() != seen.as_str() {
-        write!(seen, "but by 2 {two}and by 16 {many}")?;
-    }
+/// The text of what a run left, and the lines that the cells ask for.
+pub fn said(alloc: Global, sight: Sight<'_>, left: &Left<'_>) -> Result<String, Fail> {
+    let mut seen = String::new(alloc);
+    push_sight(alloc, &mut seen, left, sight)?;
     Ok(seen)
 }
 

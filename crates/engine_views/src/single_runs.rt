@@ -48,27 +48,61 @@ fn read_all<K: Link>(alloc: Global, link: &mut K) -> Result<Vec<u8>, AllocError>
     Ok(all)
 }
 
+/// What a host answers to what it is sent.
+fn answer_to<K: Link>(alloc: Global, link: &mut K, sent: &[u8]) -> Result<Vec<u8>, AllocError> {
+    let is_sent = link.send(sent).is_ok();
+    let mut answer = read_all(alloc, link)?;
+    if !is_sent {
+        answer.extend_from_slice(b" not sent")?;
+    }
+    Ok(answer)
+}
+
+/// What a started host answers, if it starts.
+fn answer_of<S: Spawner>(
+    alloc: Global,
+    spawner: &mut S,
+    command: &[u8],
+    sent: &[u8],
+) -> Result<Option<Vec<u8>>, AllocError> {
+    let mut starter = spawner.starter(command)?;
+    let Ok(mut link) = starter.start() else {
+        spawner.take_back(starter);
+        return Ok(None);
+    };
+    let answer = answer_to(alloc, &mut link, sent);
+    starter.end(link);
+    spawner.take_back(starter);
+    Ok(Some(answer?))
+}
+
+/// That no host started, and how many drivers were asked for below.
+fn not_started(alloc: Global, drivers: usize) -> Result<Vec<u8>, Fail> {
+    let text = format!(in alloc; "not started {drivers}")?;
+    Ok(Vec::from_slice(alloc, text.as_bytes())?)
+}
+
+/// What a host of this spawner answers, or that it doesn't start, and how many drivers were asked for below.
+fn told_by(
+    alloc: Global,
+    spawner: &mut OnceSpawner<MemorySpawner, MemoryOnceMaker>,
+    command: &[u8],
+    sent: &[u8],
+) -> Result<Vec<u8>, Fail> {
+    match answer_of(alloc, spawner, command, sent)? {
+        Some(answer) => Ok(answer),
+        None => not_started(alloc, spawner.inner().drivers().len()),
+    }
+}
+
 /// What a host answers. The cells are those of the single runs, and at last the command and what it is sent. If it
 /// doesn't start, the text has how many drivers were asked for below.
 pub fn host_of(alloc: Global, block: &Block) -> Result<Vec<u8>, Fail> {
     let [scripts @ .., command, sent] = block.cells.as_slice() else {
         return Err(unknown(&block.form));
     };
-    let inner = MemorySpawner::new(alloc, Vec::new(alloc));
     let maker = MemoryOnceMaker::new(alloc, singles_of(alloc, scripts)?);
+    let inner = MemorySpawner::new(alloc, Vec::new(alloc));
     let mut spawner = OnceSpawner::new(alloc, inner, maker, true);
-    let mut starter = spawner.starter(&command.value)?;
-    let Ok(mut link) = starter.start() else {
-        spawner.take_back(starter);
-        let text = format!(in alloc; "not started {}", spawner.inner().drivers().len())?;
-        return Ok(Vec::from_slice(alloc, text.as_bytes())?);
-    };
-    let is_sent = link.send(&sent.value).is_ok();
-    let mut answer = read_all(alloc, &mut link)?;
-    if !is_sent {
-        answer.extend_from_slice(b" not sent")?;
-    }
-    starter.end(link);
-    spawner.take_back(starter);
-    Ok(answer)
+    told_by(alloc, &mut spawner, &command.value, &sent.value)
 }
