@@ -1,16 +1,14 @@
 //! Runs the cases of the protocol of filter drivers, and of what stands on it. Each argument is a file of cases.
 //!
 //! The crates under test are `pkt_line`, `filter_words`, `delay_table`, `filter_proto`, `driver_host`,
-//! `checkout_core` and `journal_audit`. A case's kind is the first word of its form, and each module says which cells
-//! its kinds have.
+//! `checkout_core` and `journal_audit`. A case's kind is the first word of its form, and each module, here and in
+//! `core_views`, says which cells its kinds have.
 #![tactic(auto)]
 
 mod answers;
-mod checkout;
 mod cleans;
 mod delays;
 mod hosts;
-mod journals;
 mod packets;
 mod page;
 mod pipe;
@@ -19,6 +17,7 @@ mod talks;
 mod writings;
 
 use case_kit::{Block, Cases, Words, found, parted, report_files};
+use core_views::{followed, judged};
 use std::alloc::Global;
 use std::test::Fail;
 
@@ -72,8 +71,8 @@ impl Cases for Protocol {
             Kind::Late => hosts::served(alloc, cells),
             Kind::Host => hosts::hosted(alloc, cells),
             Kind::Clean => cleans::cleaned(alloc, cells),
-            Kind::Checkout => checkout::followed(alloc, cells),
-            Kind::Journal => journals::judged(alloc, cells),
+            Kind::Checkout => followed(alloc, cells),
+            Kind::Journal => judged(alloc, cells),
         }
     }
 }
