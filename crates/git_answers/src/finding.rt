@@ -241,7 +241,7 @@ pub fn find(git: &Git, revision: Option<&str>) -> Result<FoundRepository, GitFau
 }
 
 /// Whether git reads the value as a switch that is on, or `None` if it is no switch.
-fn switch_of(git: &Git, value: &str) -> Result<Option<bool>, GitFault> {
+pub fn switch_of(git: &Git, value: &str) -> Result<Option<bool>, GitFault> {
     let setting = format!(in git.alloc; "siuwbren.switch={value}")?;
     let answer = git.ask(&[
         "-c",

@@ -10,6 +10,7 @@ mod finding;
 mod git;
 mod listing;
 mod notes;
+mod sharing;
 
 pub use attribute_files::base_attributes;
 pub use fault::GitFault;
@@ -17,3 +18,4 @@ pub use finding::{FoundRepository, find, list, tree_by_git};
 pub use git::{Answer, Git, copy_of, fault_of};
 pub use listing::SettingsList;
 pub use notes::{Met, notes_of, place_of, word_of};
+pub use sharing::{Sharing, sharing_of};

@@ -15,7 +15,7 @@ use edge_adapters::{DriverPlace, read_whole};
 use edge_kit::{Repo, TakeFault};
 use git_answers::{
     FoundRepository, Git, GitFault, Met, SettingsList, base_attributes, copy_of, find, list,
-    notes_of, place_of, word_of,
+    notes_of, place_of, sharing_of, word_of,
 };
 use git_tree::Keeps;
 use std::alloc::{AllocError, Global};
@@ -113,7 +113,8 @@ impl GitRepo {
 
     /// The lock of its own index, unless another process has it or it can't be made.
     pub fn lock_index(&self) -> Result<IndexLock, GitFault> {
-        IndexLock::take(&self.git, self.found.index.as_str())
+        let sharing = sharing_of(&self.git, &self.listing)?;
+        IndexLock::take(&self.git, self.found.index.as_str(), sharing)
     }
 
     /// What the file system of its worktree keeps.

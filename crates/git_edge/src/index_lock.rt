@@ -1,11 +1,13 @@
 //! The lock of an index, which is also the place of the new one: `index.lock` beside it.
 use crate::keeper::Keeper;
-use git_answers::{Git, GitFault};
+use git_answers::{Git, GitFault, Sharing};
 use std::alloc::AllocError;
-use std::fs::{File, OpenOptions, canonicalize, remove_file, rename, symlink_metadata};
+use std::fs::{
+    File, OpenOptions, Permissions, canonicalize, remove_file, rename, symlink_metadata,
+};
 use std::io;
 use std::io::{ErrorKind, Write};
-use std::os::unix::fs::OpenOptionsExt;
+use std::os::unix::fs::{OpenOptionsExt, PermissionsExt};
 
 /// What a shell does with a lock: it says that it waits. Once it is told that the lock is made, it removes that at the
 /// end of its input, unless it is told before that the lock is gone. Signals that a terminal sends to both don't end
@@ -39,13 +41,35 @@ fn place_of(git: &Git, path: &str) -> Result<String, AllocError> {
     String::from_str(git.alloc, path)
 }
 
+/// Gives a new file the permissions that its repository says.
+fn share(file: &File, sharing: Sharing) -> io::Result<()> {
+    let made = file.metadata()?.permissions().mode() & 0o7777;
+    let mode = sharing.of_file(made);
+    if mode != made {
+        file.set_permissions(Permissions::from_mode(mode))?;
+    }
+    Ok(())
+}
+
 /// Makes the file of a lock where nothing is.
-fn make(rt: HostRuntime, path: &str) -> io::Result<File> {
+fn make_new(rt: HostRuntime, path: &str) -> io::Result<File> {
     OpenOptions::new()
         .write(true)
         .create_new(true)
         .mode(0o666)
         .open(&rt, path)
+}
+
+/// Makes the file of a lock where nothing is, with the permissions that its repository says.
+fn make(rt: HostRuntime, path: &str, sharing: Sharing) -> io::Result<File> {
+    let file = make_new(rt, path)?;
+    match share(&file, sharing) {
+        Ok(()) => Ok(file),
+        Err(error) => {
+            let _ = remove_file(&rt, path);
+            Err(error)
+        }
+    }
 }
 
 /// Why the file of a lock couldn't be made.
@@ -58,15 +82,16 @@ fn fault_of(path: String, error: io::Error) -> GitFault {
 }
 
 impl IndexLock {
-    /// Locks the index at this path, or says why it can't be. It never waits for another process.
-    pub fn take(git: &Git, index: &str) -> Result<IndexLock, GitFault> {
+    /// Locks the index at this path, which is to have such permissions, or says why it can't be. It never waits for
+    /// another process.
+    pub fn take(git: &Git, index: &str, sharing: Sharing) -> Result<IndexLock, GitFault> {
         let index = place_of(git, index)?;
         let path = format!(in git.alloc; "{index}.lock")?;
         let mut keeper = match Keeper::start(git.rt, git.alloc, KEEPING, path.as_str()) {
             Ok(keeper) => keeper,
             Err(_) => None,
         };
-        let file = match make(git.rt, path.as_str()) {
+        let file = match make(git.rt, path.as_str(), sharing) {
             Ok(file) => file,
             Err(error) => {
                 end(keeper);
