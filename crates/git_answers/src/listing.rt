@@ -174,6 +174,11 @@ impl SettingsList {
         }
     }
 
+    /// Whether a switch is on, that is off if nothing is said of it.
+    pub fn is_asked(&self, key: &[u8]) -> bool {
+        self.last(key).is_some() && self.is_on(key)
+    }
+
     /// The name of a remote from which objects may still be fetched, as a partial clone has one.
     pub fn promisor(&self) -> Option<&[u8]> {
         for text in self.bytes.split(|byte| *byte == 0) {

@@ -155,6 +155,11 @@ impl GitRepo {
         }
     }
 
+    /// Whether git takes each file that it writes to be as its entry says from then on (core.ignoreStat).
+    pub fn ignores_stat(&self) -> bool {
+        self.listing.is_asked(b"core.ignorestat")
+    }
+
     /// Which file systems its paths are guarded for: both, unless a setting says no.
     pub fn guards(&self) -> Guards {
         Guards {

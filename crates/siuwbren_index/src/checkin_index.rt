@@ -1,6 +1,6 @@
 //! The index that a check-in puts into the place of the repository's own one, with what is told of its files.
 use crate::faults::say;
-use crate::update_index::{put_index, with_stats};
+use crate::update_index::{ToldFiles, put_index, with_stats};
 use checkout_engine::ExitStatus;
 use git_edge::IndexLock;
 use git_index::Stat;
@@ -40,6 +40,10 @@ pub fn index_of_checkin(
     made: Option<&[u8]>,
     told: &[(&[u8], Stat)],
 ) -> Result<Option<Vec<u8>>, AllocError> {
+    let told = ToldFiles {
+        files: told,
+        are_assumed: false,
+    };
     match made {
         Some(index) if is_done(status) => with_stats(alloc, index, told),
         _ => Ok(None),

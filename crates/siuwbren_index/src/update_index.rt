@@ -74,16 +74,27 @@ fn told_at(told: &[(&[u8], Stat)], place: usize, entry: &Entry) -> Option<Stat> 
     }
 }
 
-/// What an index tells of an entry's file. An unmerged path has none of its own.
-fn stat_of(entry: &Entry, raw: &RawEntry<'_>, told: Option<Stat>) -> Stat {
-    let stat = match told {
-        Some(stat) if entry.stage == 0 => stat,
-        _ => Stat::NONE,
-    };
-    Stat {
-        valid: raw.is_assumed(),
-        ..stat
+/// What an index tells of an entry's file. An unmerged path has none of its own. A file that is told of may be one that
+/// git is to take for what the entry says.
+fn stat_of(entry: &Entry, raw: &RawEntry<'_>, told: Option<Stat>, is_assumed: bool) -> Stat {
+    match told {
+        Some(stat) if entry.stage == 0 => Stat {
+            valid: is_assumed || raw.is_assumed(),
+            ..stat
+        },
+        _ => Stat {
+            valid: raw.is_assumed(),
+            ..Stat::NONE
+        },
     }
+}
+
+/// What is told of files in the order of their paths.
+#[derive(Clone, Copy)]
+pub struct ToldFiles<'a> {
+    pub files: &'a [(&'a [u8], Stat)],
+    /// Whether git is to take these files for what their entries say (core.ignoreStat).
+    pub are_assumed: bool,
 }
 
 /// What an index tells of the file of each entry, by what is told of files in the order of the entries.
@@ -91,16 +102,16 @@ fn stats_of(
     alloc: Global,
     entries: &[Entry],
     raw: &[RawEntry<'_>],
-    told: &[(&[u8], Stat)],
+    told: ToldFiles<'_>,
 ) -> Result<Vec<Stat>, AllocError> {
     let mut stats = Vec::with_capacity(alloc, entries.len())?;
     let mut place = 0usize;
     for (entry, raw) in entries.iter().zip(raw.iter()) {
-        let found = told_at(told, place, entry);
+        let found = told_at(told.files, place, entry);
         if found.is_some() {
             place = place.saturating_add(1);
         }
-        stats.push(stat_of(entry, raw, found))?;
+        stats.push(stat_of(entry, raw, found, told.are_assumed))?;
     }
     Ok(stats)
 }
@@ -109,7 +120,7 @@ fn stats_of(
 pub fn with_stats(
     alloc: Global,
     index: &[u8],
-    told: &[(&[u8], Stat)],
+    told: ToldFiles<'_>,
 ) -> Result<Option<Vec<u8>>, AllocError> {
     let (Ok(read), Some(raw)) = (read_index(alloc, index), RawIndex::read(alloc, index)?) else {
         return Ok(None);
@@ -125,6 +136,10 @@ pub fn updated_index(
     repo: &mut GitRepo,
     told: &[(&[u8], Stat)],
 ) -> Result<Option<Vec<u8>>, AllocError> {
+    let told = ToldFiles {
+        files: told,
+        are_assumed: repo.ignores_stat(),
+    };
     match repo.index_bytes(MOST_INDEX) {
         Ok(Some(index)) => with_stats(rt.alloc(), index.as_slice(), told),
         _ => Ok(None),
