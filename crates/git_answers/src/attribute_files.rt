@@ -9,7 +9,7 @@ use edge_adapters::read_whole;
 use edge_kit::TakeFault;
 use std::alloc::AllocError;
 use std::env::var;
-use std::fs::metadata;
+use std::fs::{File, metadata};
 use std::io;
 use std::io::ErrorKind;
 
@@ -124,39 +124,70 @@ fn user_path(
     }
 }
 
-/// Whether nothing is at a path, or one of its folders is none, as in that of a home which is `/dev/null`.
-fn is_nowhere(git: &Git, path: &str) -> bool {
-    match metadata(&git.rt, path) {
-        Ok(_) => false,
-        Err(error) => { matches!(error.kind(), ErrorKind::NotFound | ErrorKind::NotADirectory) }
+/// Opens the file at a path, to see whether that can be. A folder can't be opened, and what else is no file isn't.
+fn open_file(git: &Git, path: &str) -> io::Result<()> {
+    let found = metadata(&git.rt, path)?;
+    if found.is_dir() {
+        return Err(io::Error::from(ErrorKind::IsADirectory));
+    }
+    if found.is_file() {
+        File::open(&git.rt, path)?;
+    }
+    Ok(())
+}
+
+/// Notes why a file is left out. One that isn't there isn't missed, nor one in a folder that is none, as in that of a
+/// home which is `/dev/null`.
+fn leave_out(
+    git: &Git,
+    path: &str,
+    error: &io::Error,
+    left_out: &mut Vec<String>,
+) -> Result<(), AllocError> {
+    match error.kind() {
+        ErrorKind::NotFound | ErrorKind::NotADirectory => Ok(()),
+        ErrorKind::OutOfMemory => Err(AllocError),
+        _ => {
+            let line = format!(in git.alloc; "the attribute file {path} is left out: {error}")?;
+            left_out.push(line)?;
+            Ok(())
+        }
     }
 }
 
-/// The file at this path, or nothing if it isn't there.
-fn file_at(git: &Git, path: io::Result<Option<String>>, limit: u64) -> Result<Vec<u8>, TakeFault> {
-    match path {
-        Ok(Some(path)) if is_nowhere(git, path.as_str()) => Ok(Vec::new(git.alloc)),
-        Ok(Some(path)) => match read_whole(git.rt, git.alloc, path.as_str(), limit)? {
-            Some(bytes) => Ok(bytes),
-            None => Ok(Vec::new(git.alloc)),
-        },
-        Ok(None) => Ok(Vec::new(git.alloc)),
-        Err(error) => Err(fault_of(&error)),
+/// The file at this path, or nothing if it isn't there or can't be opened.
+fn file_at(
+    git: &Git,
+    path: io::Result<Option<String>>,
+    limit: u64,
+    left_out: &mut Vec<String>,
+) -> Result<Vec<u8>, TakeFault> {
+    let Some(path) = path.map_err(|error| fault_of(&error))? else {
+        return Ok(Vec::new(git.alloc));
+    };
+    if let Err(error) = open_file(git, path.as_str()) {
+        leave_out(git, path.as_str(), &error, left_out)?;
+        return Ok(Vec::new(git.alloc));
+    }
+    match read_whole(git.rt, git.alloc, path.as_str(), limit)? {
+        Some(bytes) => Ok(bytes),
+        None => Ok(Vec::new(git.alloc)),
     }
 }
 
 /// The two files as one, of which the later lines win: the system's, and then the user's. Neither has its mark
-/// (U+FEFF).
+/// (U+FEFF). One that can't be opened is left out, as git has it, and it is noted why.
 pub fn base_attributes(
     git: &Git,
     found: &FoundRepository,
     listing: &SettingsList,
     limit: u64,
+    left_out: &mut Vec<String>,
 ) -> Result<Option<Vec<u8>>, TakeFault>
     ensures { Takes Untold limit result }
 {
-    let system = file_at(git, system_path(git, found, listing), limit)?;
-    let user = file_at(git, user_path(git, found, listing), limit)?;
+    let system = file_at(git, system_path(git, found, listing), limit, left_out)?;
+    let user = file_at(git, user_path(git, found, listing), limit, left_out)?;
     if system.is_empty() && user.is_empty() {
         return Ok(None);
     }

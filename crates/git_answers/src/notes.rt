@@ -152,9 +152,20 @@ fn add_replaced(
     Ok(())
 }
 
-/// What was met in a repository that git would take otherwise.
+/// Copies of lines.
+fn copies_of(alloc: Global, lines: &[String]) -> Result<Vec<String>, AllocError> {
+    let mut copies = Vec::with_capacity(alloc, lines.len())?;
+    for line in lines {
+        copies.push(line.clone()?)?;
+    }
+    Ok(copies)
+}
+
+/// What was met in a repository that is to be said.
 #[derive(Clone, Copy)]
 pub struct Met<'a> {
+    /// Why attribute files of the system and of the user are left out, which git says too.
+    pub left_out: &'a [String],
     /// The attribute files of its index that have a second stage.
     pub unmerged: &'a [Bytes],
     /// The names of objects that aren't there.
@@ -171,7 +182,7 @@ pub fn notes_of(
     remote: Option<&[u8]>,
     met: Met<'_>,
 ) -> Result<Vec<String>, AllocError> {
-    let mut notes = Vec::new(git.alloc);
+    let mut notes = copies_of(git.alloc, met.left_out)?;
     add_unmerged(git.alloc, met.unmerged, &mut notes)?;
     if let Some(remote) = remote {
         if !met.absent.is_empty() {

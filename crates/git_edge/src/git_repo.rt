@@ -46,6 +46,8 @@ pub struct GitRepo {
     returned: Vec<([u8; 20], u64)>,
     // the names of those among them that aren't there
     absent: Vec<[u8; 20]>,
+    // why attribute files are left out
+    left_out: Vec<String>,
     // there is room for each blob that is out
     ghost room: { vec_len returned + out ≤ vec_capacity returned },
 }
@@ -93,6 +95,7 @@ impl GitRepo {
             out: 0,
             returned: Vec::new(rt.alloc()),
             absent: Vec::new(rt.alloc()),
+            left_out: Vec::new(rt.alloc()),
         })
     }
 
@@ -174,7 +177,8 @@ impl GitRepo {
     }
 
     /// What is to be said of it once its blobs are given back, each in a line without its end: attribute files that are
-    /// unmerged, objects that a partial clone lacks, and objects that are replaced. What git can't say isn't said.
+    /// left out or unmerged, objects that a partial clone lacks, and objects that are replaced. What git can't say
+    /// isn't said.
     pub fn notes(&self) -> Result<Vec<String>, AllocError> {
         let tree = match &self.tree {
             Some(tree) => Some(tree.name.as_str()),
@@ -187,6 +191,7 @@ impl GitRepo {
         };
         let unmerged = self.unmerged()?;
         let met = Met {
+            left_out: self.left_out.as_slice(),
             unmerged: unmerged.as_slice(),
             absent: self.absent.as_slice(),
             returned,
@@ -282,7 +287,9 @@ impl Repo for GitRepo {
     }
 
     fn base_attributes(&mut self, limit: u64) -> Result<Option<Vec<u8>>, TakeFault> {
-        let taken = base_attributes(&self.git, &self.found, &self.listing, limit);
+        let mut left_out = Vec::new(self.git.alloc);
+        let taken = base_attributes(&self.git, &self.found, &self.listing, limit, &mut left_out);
+        self.left_out = left_out;
         self.counted(taken)
     }
 
