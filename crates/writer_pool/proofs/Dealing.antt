@@ -28,6 +28,16 @@ use Rattle.writer_pool.specs.OnBook.{items_of, desk_cards}
 use Rattle.writer_pool.specs.Pools.{IsSeed, AreSeeds, seed_cards}
 use Rattle.writer_pool.proofs.Places.{some_is, same_or, get_map, place_is}
 
+-- the first values of two equal lists, and those behind them
+first_same : {A : Type 0} (x y : A) (xs ys : List A) → x ∷ xs ≡ y ∷ ys → x ≡ y
+first_same x y xs ys e = cc (e)
+
+rest_same : {A : Type 0} (x y : A) (xs ys : List A) → x ∷ xs ≡ y ∷ ys → xs ≡ ys
+rest_same x y xs ys e = cc (e)
+
+not_empty : {A : Type 0} (x : A) (xs : List A) → x ∷ xs ≡ [] → ⊥
+not_empty x xs e = cc (e)
+
 -- the paths of a driver differ
 not_behind : (ps : List ℕ) → contains zero (map (λ i. suc i) ps) ≡ false
 not_behind [] = refl
@@ -82,6 +92,15 @@ module _ {B L : Type 0} (see : Sight B L) where
   pub new_back : (xs ys : List (Card B L)) → book.AreNew see (xs ++ ys) → book.AreNew see ys
   new_back [] ys new = new
   new_back (x ∷ xs) ys new = new_back xs ys (λ j y e. new (suc j) y e)
+
+-- the cards of dealt desks, and those of seeds
+module _ {B L : Type 0} where
+  abbrev deck_of : List (SeatView HistoryEntry (BookPlan B L) × Vec (Card B L)) → List (Vec (Card B L))
+  deck_of dealt = map (λ (y : SeatView HistoryEntry (BookPlan B L) × Vec (Card B L)). y.1) dealt
+
+module _ {S B L : Type 0} where
+  abbrev seed_decks : List (DeskSeed S B L) → List (Vec (Card B L))
+  seed_decks xs = map (λ x. x.cards) xs
 
 -- the cards of the seeds are what the book deals
 module _ {S B L : Type 0} where
@@ -170,13 +189,12 @@ module _ {S B L : Type 0} (starter : S → StarterSeen) (see : Sight B L) where
         desk = desk_of starter see d.workers (q + i) (head_of x) x.cards.items;
       }))) → AreJobs see lock d k made (desk_jobs starter see d.workers q (map (λ x. head_of x) xs) dealt)
   desk_part lock d k made q [] [] same idle fresh is new deal fits = tt
-  desk_part lock d k made q [] (y ∷ dealt) same idle fresh is new deal fits = absurd (cc (same))
-  desk_part lock d k made q (x ∷ xs) [] same idle fresh is new deal fits = absurd (cc (same))
+  desk_part lock d k made q [] (y ∷ dealt) same idle fresh is new deal fits = absurd (not_empty y.1 (deck_of dealt) same)
+  desk_part lock d k made q (x ∷ xs) [] same idle fresh is new deal fits = absurd (not_empty x.cards (seed_decks xs) (sym same))
   desk_part lock d k made q (x ∷ xs) (y ∷ dealt) same idle fresh is new deal fits =
       let z : q + 0 ≡ q = omega arith in
-      let first : y.1 ≡ x.cards = cc (same) in
-      let rest : map (λ (y : SeatView HistoryEntry (BookPlan B L) × Vec (Card B L)). y.1) dealt ≡ map (λ x. x.cards) xs =
-      cc (same) in
+      let first = first_same y.1 x.cards (deck_of dealt) (seed_decks xs) same in
+      let rest = rest_same y.1 x.cards (deck_of dealt) (seed_decks xs) same in
       let here = subst (λ (j : ℕ). FitsActor see d (d.workers + j) (Some (record {
         required = x.required;
         desk = desk_of starter see d.workers j (head_of x) x.cards.items;
@@ -254,12 +272,11 @@ module _ {S B L : Type 0} (starter : S → StarterSeen) (see : Sight B L) where
       → map (λ (y : SeatView HistoryEntry (BookPlan B L) × Vec (Card B L)). y.1) dealt ≡ map (λ x. x.cards) xs
       → AreSeedJobs starter see workers q xs (desk_jobs starter see workers q (map (λ x. head_of x) xs) dealt)
   seed_jobs workers q [] [] same = tt
-  seed_jobs workers q [] (y ∷ dealt) same = absurd (cc (same))
-  seed_jobs workers q (x ∷ xs) [] same = absurd (cc (same))
+  seed_jobs workers q [] (y ∷ dealt) same = absurd (not_empty y.1 (deck_of dealt) same)
+  seed_jobs workers q (x ∷ xs) [] same = absurd (not_empty x.cards (seed_decks xs) (sym same))
   seed_jobs workers q (x ∷ xs) (y ∷ dealt) same =
-      let first : y.1 ≡ x.cards = cc (same) in
-      let rest : map (λ (y : SeatView HistoryEntry (BookPlan B L) × Vec (Card B L)). y.1) dealt ≡ map (λ x. x.cards) xs =
-      cc (same) in (
+      let first = first_same y.1 x.cards (deck_of dealt) (seed_decks xs) same in
+      let rest = rest_same y.1 x.cards (deck_of dealt) (seed_decks xs) same in (
         ap (λ (v : Vec (Card B L)). Some (record {
           required = x.required;
           desk = desk_of starter see workers q (head_of x) v.items;
