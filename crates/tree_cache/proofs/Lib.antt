@@ -1,0 +1,2 @@
+mod Extended
+pub mod Parts
