@@ -41,3 +41,22 @@ same_as_git() {
   [ ! -s "$work/said" ] || fail "$1: git status finds: $(head -n 5 "$work/said")"
   looked_at "$1" "$2"
 }
+
+# trees_in INDEX: the extension TREE of an index of version 2 or 3, in hex, or nothing if it has none
+trees_in() {
+  python3 - "$1" <<'END'
+import sys
+index = open(sys.argv[1], 'rb').read()
+number = lambda at, size: int.from_bytes(index[at:at + size], 'big')
+at = 12
+for _ in range(number(8, 4)):
+    head = 64 if number(at + 60, 2) & 0x4000 else 62
+    end = index.index(0, at + head)
+    at += (end - at) // 8 * 8 + 8
+while at < len(index) - 20:
+    end = at + 8 + number(at + 4, 4)
+    if index[at:at + 4] == b'TREE':
+        print(index[at:end].hex())
+    at = end
+END
+}

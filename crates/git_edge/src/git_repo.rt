@@ -139,6 +139,14 @@ impl GitRepo {
         format!(in self.git.alloc; "mv {index} {own}")
     }
 
+    /// The name of the tree that is wanted in place of its own index, if one is.
+    pub fn wanted_tree(&self) -> Option<[u8; 20]> {
+        match &self.tree {
+            Some(tree) => tree.object(),
+            None => None,
+        }
+    }
+
     /// Gives this index from now on.
     pub fn take_index(&mut self, index: Vec<u8>) {
         self.index = Some(index);

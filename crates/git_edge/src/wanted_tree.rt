@@ -63,6 +63,11 @@ impl WantedTree {
         Ok(WantedTree { name, is_for_git })
     }
 
+    /// Its name.
+    pub fn object(&self) -> Option<[u8; 20]> {
+        name_in(self.name.as_str())
+    }
+
     /// Its index as it is made here. `None` if git is to make it, or if a tree is bad, which is kept.
     fn index_here(
         &self,

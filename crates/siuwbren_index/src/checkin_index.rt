@@ -45,7 +45,7 @@ pub fn index_of_checkin(
         are_assumed: false,
     };
     match made {
-        Some(index) if is_done(status) => with_stats(alloc, index, told),
+        Some(index) if is_done(status) => with_stats(alloc, index, told, None),
         _ => Ok(None),
     }
 }

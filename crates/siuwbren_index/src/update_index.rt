@@ -8,6 +8,7 @@ use edge_kit::Repo;
 use git_edge::{GitFault, GitRepo, IndexLock};
 use git_index::{Entry, Stat, entries_can_stand, read_index, spell_stat_index};
 use std::alloc::{AllocError, Global};
+use tree_cache::{TreeCache, cache_of, with_tree_cache};
 
 /// What git says where another process has the lock of the index.
 const LOCKED: &str = "
@@ -116,18 +117,62 @@ fn stats_of(
     Ok(stats)
 }
 
-/// An index with the entries of this one, and with what is told of their files, if it can be read.
+/// The tree cache of these entries, if the tree with this name has just these. Then that tree and those below it are
+/// all that the cache names, and the repository has each.
+fn trees_of(
+    alloc: Global,
+    entries: &[Entry],
+    tree: &[u8; 20],
+) -> Result<Option<TreeCache>, AllocError> {
+    let Some(cache) = cache_of(alloc, entries)? else {
+        return Ok(None);
+    };
+    if cache.root == *tree {
+        Ok(Some(cache))
+    } else {
+        Ok(None)
+    }
+}
+
+/// The index of these entries with the cache of a tree with this name. As it is, if that tree has other entries, or if
+/// it would be too large to be read.
+fn with_trees(
+    alloc: Global,
+    index: Vec<u8>,
+    entries: &[Entry],
+    tree: &[u8; 20],
+) -> Result<Vec<u8>, AllocError> {
+    let Some(cache) = trees_of(alloc, entries, tree)? else {
+        return Ok(index);
+    };
+    if cache.text.len() as u64 > MOST_INDEX {
+        return Ok(index);
+    }
+    let cached = with_tree_cache(alloc, index.as_slice(), cache.text.as_slice())?;
+    if cached.len() as u64 > MOST_INDEX {
+        return Ok(index);
+    }
+    Ok(cached)
+}
+
+/// An index with the entries of this one, and with what is told of their files, if it can be read. If a tree is named
+/// that has just these entries, it has the cache of that.
 pub fn with_stats(
     alloc: Global,
     index: &[u8],
     told: ToldFiles<'_>,
+    tree: Option<[u8; 20]>,
 ) -> Result<Option<Vec<u8>>, AllocError> {
     let (Ok(read), Some(raw)) = (read_index(alloc, index), RawIndex::read(alloc, index)?) else {
         return Ok(None);
     };
     let stats = stats_of(alloc, read.entries(), raw.entries.as_slice(), told)?;
     entries_can_stand();
-    Ok(Some(spell_stat_index(alloc, read.entries(), stats.as_slice())?))
+    let spelled = spell_stat_index(alloc, read.entries(), stats.as_slice())?;
+    match tree {
+        Some(tree) => Ok(Some(with_trees(alloc, spelled, read.entries(), &tree)?)),
+        None => Ok(Some(spelled)),
+    }
 }
 
 /// The index of a repository with what is told of its files, if that is to take the place of its own one.
@@ -141,7 +186,7 @@ pub fn updated_index(
         are_assumed: repo.ignores_stat(),
     };
     match repo.index_bytes(MOST_INDEX) {
-        Ok(Some(index)) => with_stats(rt.alloc(), index.as_slice(), told),
+        Ok(Some(index)) => with_stats(rt.alloc(), index.as_slice(), told, repo.wanted_tree()),
         _ => Ok(None),
     }
 }
