@@ -42,7 +42,12 @@ same_as_git() {
   looked_at "$1" "$2"
 }
 
-# trees_in INDEX: the extension TREE of an index of version 2 or 3, in hex, or nothing if it has none
+# version_in INDEX: the version of an index
+version_in() {
+  od -An -tu1 -j 7 -N 1 "$1" | tr -d ' '
+}
+
+# trees_in INDEX: the extension TREE of an index, in hex, or nothing if it has none
 trees_in() {
   python3 - "$1" <<'END'
 import sys
@@ -51,6 +56,12 @@ number = lambda at, size: int.from_bytes(index[at:at + size], 'big')
 at = 12
 for _ in range(number(8, 4)):
     head = 64 if number(at + 60, 2) & 0x4000 else 62
+    if number(4, 4) == 4:
+        digits = at + head
+        while index[digits] > 127:
+            digits += 1
+        at = index.index(0, digits + 1) + 1
+        continue
     end = index.index(0, at + head)
     at += (end - at) // 8 * 8 + 8
 while at < len(index) - 20:

@@ -107,6 +107,13 @@ fn is_other_kind(found: &Metadata, wanted: WantedKind) -> bool {
     }
 }
 
+/// What the system tells of what stands at a place, over folders alone.
+pub fn found_below(rt: HostRuntime, place: &LeafPlace) -> io::Result<Metadata> {
+    let path = place.full();
+    need_folders(rt, path, place.top())?;
+    symlink_metadata(&rt, path)
+}
+
 /// The whole file or the text of the link at a place, within the limit. What is neither is a fault, and isn't opened,
 /// since that may wait forever.
 fn read_there(
@@ -119,8 +126,7 @@ fn read_there(
     ensures { IfOk result (IsWithin limit) }
 {
     let (path, top) = (place.full(), place.top());
-    need_folders(rt, path, top)?;
-    let found = symlink_metadata(&rt, path)?;
+    let found = found_below(rt, place)?;
     if is_other_kind(&found, wanted) {
         return Ok(FileRead::OtherKind);
     }

@@ -4,12 +4,13 @@ ghost use Rattle.edge_kit.specs.Faults.{AfterSend};
 ghost use Rattle.checkin_edge.specs.Places.{folder_of, file_of};
 
 use crate::held_entries::{HeldEntry, with_held};
-use crate::new_file::{replace, write_once};
+use crate::new_file::{ObjectFolder, replace_file, write_once};
 use crate::stored_object::has_object;
 use crate::zlib_store::zlib_stored;
 use checkin_paths::Keep;
 use edge_adapters::path_in;
 use edge_kit::SendFault;
+use file_stat::Sharing;
 use std::alloc::{AllocError, Global};
 use std::io;
 use std::io::ErrorKind;
@@ -32,6 +33,8 @@ pub struct FolderKeep {
     pub objects: String,
     pub index: String,
     pub form: ObjectForm,
+    // who else may use the files of objects
+    sharing: Sharing,
     faults: u64,
     // its first fault
     error: Option<io::Error>,
@@ -75,6 +78,7 @@ impl FolderKeep {
             objects,
             index,
             form,
+            sharing: Sharing::Umask,
             faults: 0,
             error: None,
             held: Vec::new(rt.alloc()),
@@ -93,6 +97,18 @@ impl FolderKeep {
     {
         let mut keep = self;
         keep.held = held;
+        keep
+    }
+
+    /// This keeper, whose files of objects have the permissions that a repository says.
+    pub fn sharing(self, sharing: Sharing) -> FolderKeep
+        ensures objects { result.objects ≡ self.objects }
+        ensures index { result.index ≡ self.index }
+        ensures form { result.form ≡ self.form }
+        ensures seen { ⟦<FolderKeep as Keep>⟧.seen result ≡ ⟦<FolderKeep as Keep>⟧.seen self }
+    {
+        let mut keep = self;
+        keep.sharing = sharing;
         keep
     }
 
@@ -128,13 +144,15 @@ impl FolderKeep {
         if has_object(self.rt, self.form, path.as_str(), raw)? {
             return Ok(());
         }
+        let folder = ObjectFolder {
+            path: folder.as_str(),
+            sharing: self.sharing,
+        };
         match self.form {
-            ObjectForm::Plain => {
-                write_once(self.rt, self.alloc, folder.as_str(), path.as_str(), raw)
-            }
+            ObjectForm::Plain => write_once(self.rt, self.alloc, folder, path.as_str(), raw),
             ObjectForm::Zlib => {
                 let stream = zlib_stored(self.alloc, raw)?;
-                write_once(self.rt, self.alloc, folder.as_str(), path.as_str(), &stream)
+                write_once(self.rt, self.alloc, folder, path.as_str(), &stream)
             }
         }
     }
@@ -143,10 +161,10 @@ impl FolderKeep {
     fn write_index(&self, bytes: &[u8]) -> io::Result<()> {
         let path = self.index.as_str();
         if self.held.is_empty() {
-            return replace(self.rt, self.alloc, path, bytes);
+            return replace_file(self.rt, self.alloc, path, bytes);
         }
         let marked = with_held(self.alloc, bytes, self.held.as_slice())?;
-        replace(self.rt, self.alloc, path, &marked)
+        replace_file(self.rt, self.alloc, path, &marked)
     }
 
     /// Keeps the index in memory, or writes its file.

@@ -2,6 +2,7 @@
 //! index beside those of a repository. They tell nothing of what they hold, and each counts its faults.
 #![tactic(auto)]
 
+mod file_kind;
 mod folder_entry;
 mod folder_files;
 mod folder_keep;
@@ -12,8 +13,10 @@ mod raw_index;
 mod stored_object;
 mod zlib_store;
 
+pub use file_kind::{KeptKinds, OtherKind, PathMode, other_kind_at, with_modes};
 pub use folder_files::{FolderFiles, IndexLinks};
 pub use folder_keep::{FolderKeep, ObjectForm};
 pub use held_entries::HeldEntry;
+pub use new_file::replace_file;
 pub use raw_index::{RawEntry, RawIndex};
 pub use zlib_store::zlib_stored;

@@ -1,4 +1,5 @@
 //! A file that gets its name once it is whole.
+use file_stat::{Sharing, share_file, share_folder};
 use std::alloc::Global;
 use std::fs::{File, OpenOptions, create_dir_all, remove_file, rename};
 use std::io::{ErrorKind, Write};
@@ -71,22 +72,35 @@ impl Drop for NewFile {
     }
 }
 
-/// Makes a file in a folder, under a name that begins like this. The folder is made first if it isn't there.
+/// The folder of a new object, and who else may use that and its files.
+#[derive(Clone, Copy)]
+pub struct ObjectFolder<'a> {
+    pub path: &'a str,
+    pub sharing: Sharing,
+}
+
+/// The permissions of an object's file, before the umask.
+const OF_OBJECT: u32 = 0o444;
+
+/// Makes the file of an object in a folder, under a name that begins like this. The folder is made first if it isn't
+/// there.
 fn make_in(
     rt: HostRuntime,
     alloc: Global,
-    folder: &str,
+    folder: ObjectFolder<'_>,
     begin: &str,
-    mode: u32,
 ) -> io::Result<NewFile> {
     // twice, since `git gc` may remove the folder while it is empty
     for _ in 0..2 {
-        match NewFile::make(rt, alloc, begin, mode) {
-            Err(error) if error.kind() == ErrorKind::NotFound => create_dir_all(&rt, folder)?,
+        match NewFile::make(rt, alloc, begin, OF_OBJECT) {
+            Err(error) if error.kind() == ErrorKind::NotFound => {
+                create_dir_all(&rt, folder.path)?;
+                share_folder(rt, folder.path, folder.sharing)?;
+            }
             made => return made,
         }
     }
-    NewFile::make(rt, alloc, begin, mode)
+    NewFile::make(rt, alloc, begin, OF_OBJECT)
 }
 
 /// Writes a file that nobody may change into a folder under this name, all or nothing. The name that the file has first
@@ -94,16 +108,19 @@ fn make_in(
 pub fn write_once(
     rt: HostRuntime,
     alloc: Global,
-    folder: &str,
+    folder: ObjectFolder<'_>,
     path: &str,
     bytes: &[u8],
 ) -> io::Result<()> {
-    let begin = format!(in alloc; "{folder}/tmp_obj_")?;
-    make_in(rt, alloc, folder, begin.as_str(), 0o444)?.end(path, bytes)
+    let within = folder.path;
+    let begin = format!(in alloc; "{within}/tmp_obj_")?;
+    let made = make_in(rt, alloc, folder, begin.as_str())?;
+    share_file(&made.file, folder.sharing)?;
+    made.end(path, bytes)
 }
 
 /// Writes a file in place of the one at this path, all or nothing.
-pub fn replace(rt: HostRuntime, alloc: Global, path: &str, bytes: &[u8]) -> io::Result<()> {
+pub fn replace_file(rt: HostRuntime, alloc: Global, path: &str, bytes: &[u8]) -> io::Result<()> {
     let begin = format!(in alloc; "{path}_")?;
     NewFile::make(rt, alloc, begin.as_str(), 0o666)?.end(path, bytes)
 }

@@ -13,6 +13,9 @@ const FIELDS: usize = 62;
 /// How many bytes stand before the path of an entry with the 16 more bits.
 const MORE_FIELDS: usize = 64;
 
+/// How many bytes of an entry stand before its mode: two times, the device and the inode.
+const BEFORE_MODE: usize = 24;
+
 /// In the first byte of the flags: assume-valid, whether 16 more bits follow, and the stage.
 const VALID: u8 = 0x80;
 
@@ -26,8 +29,11 @@ const SPARSE: u8 = 0x40;
 /// An entry as it stands in an index.
 #[derive(Clone, Copy)]
 pub struct RawEntry<'a> {
-    /// What stands before its flags.
+    /// What stands before its mode.
     front: &'a [u8],
+    mode: [u8; 4],
+    /// What stands between its mode and its flags: the user, the group, the size and the name of its object.
+    behind: &'a [u8],
     flags: [u8; 2],
     /// The 16 more bits, if it has them.
     more: Option<[u8; 2]>,
@@ -76,13 +82,28 @@ fn more_of(tail: &[u8]) -> Option<[u8; 2]> {
     }
 }
 
+/// The fields of an entry, without those that follow its flags.
+fn fields_of(fields: &[u8]) -> Option<RawEntry<'_>> {
+    let (front, others) = fields.split_at_checked(BEFORE_MODE)?;
+    let [a, b, c, d, behind @ .., high, low] = others else {
+        return None;
+    };
+    Some(RawEntry {
+        front,
+        mode: [*a, *b, *c, *d],
+        behind,
+        flags: [*high, *low],
+        more: None,
+        rest: &[],
+    })
+}
+
 /// The entry that the bytes begin with, and what follows it.
 fn split_entry(version: u8, bytes: &[u8]) -> Option<(RawEntry<'_>, &[u8])> {
     let (fields, tail) = bytes.split_at_checked(FIELDS)?;
-    let [front @ .., high, low] = fields else {
-        return None;
-    };
-    let (head, more) = if *high & EXTENDED == 0 {
+    let fields = fields_of(fields)?;
+    let [high, _] = fields.flags;
+    let (head, more) = if high & EXTENDED == 0 {
         (FIELDS, None)
     } else {
         (MORE_FIELDS, Some(more_of(tail)?))
@@ -94,10 +115,9 @@ fn split_entry(version: u8, bytes: &[u8]) -> Option<(RawEntry<'_>, &[u8])> {
     };
     let (rest, after) = tail.split_at_checked(len)?;
     let entry = RawEntry {
-        front,
-        flags: [*high, *low],
         more,
         rest,
+        ..fields
     };
     Some((entry, after))
 }
@@ -127,6 +147,8 @@ impl<'a> RawEntry<'a> {
     /// Appends its bytes.
     pub fn push(&self, version: u8, index: &mut Vec<u8>) -> Result<(), AllocError> {
         index.extend_from_slice(self.front)?;
+        index.extend_from_slice(self.mode.as_slice())?;
+        index.extend_from_slice(self.behind)?;
         index.extend_from_slice(self.flags.as_slice())?;
         if let Some(more) = self.more {
             index.extend_from_slice(more.as_slice())?;
@@ -145,6 +167,26 @@ impl<'a> RawEntry<'a> {
             index.push(0)?;
         }
         Ok(())
+    }
+
+    /// This entry with the mode that this number says.
+    pub fn of_mode(self, number: u32) -> RawEntry<'a> {
+        RawEntry {
+            mode: number.to_be_bytes(),
+            ..self
+        }
+    }
+
+    /// What it tells of its file, but for the device, which git passes over: the times, the inode, the user, the group
+    /// and the size.
+    pub fn told(&self) -> [&'a [u8]; 3] {
+        let (times, place) = self.front.split_at_checked(16).unwrap_or((self.front, &[]));
+        let (_, inode) = place.split_at_checked(4).unwrap_or((&[], place));
+        let (owner, _) = self
+            .behind
+            .split_at_checked(12)
+            .unwrap_or((self.behind, &[]));
+        [times, inode, owner]
     }
 
     /// This entry with skip-worktree.
@@ -235,7 +277,16 @@ impl<'a> RawIndex<'a> {
         Ok(index)
     }
 
-    /// The index with skip-worktree at each entry that is assumed to be as its file is, and with no hash: 20 NULs.
+    /// Appends its extensions, and no hash: 20 NULs.
+    pub fn end(&self, index: &mut Vec<u8>) -> Result<(), AllocError> {
+        let kept = self.behind.len().saturating_sub(HASH);
+        if let Some((extensions, _)) = self.behind.split_at_checked(kept) {
+            index.extend_from_slice(extensions)?;
+        }
+        index.extend_from_slice([0u8; HASH].as_slice())
+    }
+
+    /// The index with skip-worktree at each entry that is assumed to be as its file is, and with no hash.
     pub fn with_assumed_sparse(&self, alloc: Global) -> Result<Vec<u8>, AllocError> {
         let version = self.version.max(3);
         let mut index = self.begun_as(alloc, version)?;
@@ -246,11 +297,7 @@ impl<'a> RawIndex<'a> {
                 entry.push(version, &mut index)?;
             }
         }
-        let kept = self.behind.len().saturating_sub(HASH);
-        if let Some((extensions, _)) = self.behind.split_at_checked(kept) {
-            index.extend_from_slice(extensions)?;
-        }
-        index.extend_from_slice([0u8; HASH].as_slice())?;
+        self.end(&mut index)?;
         Ok(index)
     }
 }

@@ -1,9 +1,12 @@
-//! What an index tells of a file, by what the system tells of it.
+//! What an index tells of a file, by what the system tells of it, and which permissions a shared repository's files have.
 #![tactic(auto)]
 
 ghost use Rattle.std.specs.Prelude.{◌≡◌, ◌%◌, ◌^◌};
 
+mod sharing;
+
 use git_index::Stat;
+pub use sharing::{Sharing, share_file, share_folder};
 use std::fs::Metadata;
 use std::os::unix::fs::MetadataExt;
 

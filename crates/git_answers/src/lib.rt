@@ -18,4 +18,4 @@ pub use finding::{FoundRepository, find, list, tree_by_git};
 pub use git::{Answer, Git, copy_of, fault_of};
 pub use listing::SettingsList;
 pub use notes::{Met, notes_of, place_of, word_of};
-pub use sharing::{Sharing, sharing_of};
+pub use sharing::sharing_of;

@@ -3,17 +3,7 @@ use crate::fault::GitFault;
 use crate::finding::switch_of;
 use crate::git::Git;
 use crate::listing::{SettingsList, plain_switch};
-
-/// What a repository says of the permissions of its files.
-#[derive(Clone, Copy, Debug)]
-pub enum Sharing {
-    /// They are what the umask leaves.
-    Umask,
-    /// They have these beside what the umask leaves.
-    More(u32),
-    /// They are these.
-    Exact(u32),
-}
+use file_stat::Sharing;
 
 /// What the group may do beside the owner.
 const GROUP: Sharing = Sharing::More(0o660);
@@ -21,30 +11,11 @@ const GROUP: Sharing = Sharing::More(0o660);
 /// What the group and all others may do beside the owner.
 const EVERYBODY: Sharing = Sharing::More(0o664);
 
-/// The permissions to write a file.
-const WRITING: u32 = 0o222;
-
 /// The permissions that the owner always has.
 const OWNER: u32 = 0o600;
 
 /// The permissions that a file can get.
 const MOST: u32 = 0o666;
-
-impl Sharing {
-    /// The permissions of a file that the system made with these. A file that its owner can't write nobody can.
-    pub fn of_file(self, made: u32) -> u32 {
-        let allowed = if made & 0o200 == 0 {
-            MOST & !WRITING
-        } else {
-            MOST
-        };
-        match self {
-            Sharing::Umask => made,
-            Sharing::More(mode) => made | mode & allowed,
-            Sharing::Exact(mode) => mode & allowed,
-        }
-    }
-}
 
 /// The number that octal digits are: 0 without one, and at most 2^32 - 1.
 fn octal_of(text: &[u8]) -> Option<u32> {

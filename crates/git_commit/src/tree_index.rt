@@ -74,12 +74,12 @@ impl StoppedTree<'_> {
         }
     }
 
-    /// The line of a report that refuses it: its name, its folder and the cause.
+    /// Why it is refused, as words: its name, its folder and the cause.
     fn refusal(&self, alloc: Global) -> Result<String, AllocError> {
         let name = hex::encode(alloc, self.name.as_slice())?;
         let folder = folder_text(alloc, self.folder())?;
         let cause = self.cause(alloc)?;
-        format!(in alloc; "refused tree {name} {folder} {cause}\n")
+        format!(in alloc; "tree {name} {folder} {cause}")
     }
 }
 

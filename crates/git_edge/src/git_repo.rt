@@ -7,16 +7,19 @@ use crate::git_blob::GitBlob;
 use crate::index_file::own_index;
 use crate::index_lock::IndexLock;
 use crate::lender::lender_of;
+use crate::new_version::{next_version, version_at};
 use crate::object_pool::ObjectPool;
 use crate::unmerged::unmerged_in;
 use crate::wanted_tree::{IndexLack, WantedTree};
 use byte_path::Bytes;
 use edge_adapters::{DriverPlace, read_whole};
 use edge_kit::{Repo, TakeFault};
+use file_stat::Sharing;
 use git_answers::{
     FoundRepository, Git, GitFault, Met, SettingsList, base_attributes, copy_of, find, list,
     notes_of, place_of, sharing_of, word_of,
 };
+use git_index::{Version, index_version};
 use git_tree::Keeps;
 use std::alloc::{AllocError, Global};
 use std::sync::Arc;
@@ -114,9 +117,14 @@ impl GitRepo {
         self.found.index.as_str()
     }
 
+    /// The permissions of its new files, or why git would stop there (git-config(1), core.sharedRepository).
+    pub fn sharing(&self) -> Result<Sharing, GitFault> {
+        sharing_of(&self.git, &self.listing)
+    }
+
     /// The lock of its own index, unless another process has it or it can't be made.
     pub fn lock_index(&self) -> Result<IndexLock, GitFault> {
-        let sharing = sharing_of(&self.git, &self.listing)?;
+        let sharing = self.sharing()?;
         IndexLock::take(&self.git, self.found.index.as_str(), sharing)
     }
 
@@ -127,9 +135,24 @@ impl GitRepo {
         }
     }
 
+    /// Whether its worktree's file system keeps the executable bit (git-config(1), core.fileMode).
+    pub fn trusts_modes(&self) -> bool {
+        self.listing.is_on(b"core.filemode")
+    }
+
     /// The absolute path of its worktree's top, if it has a worktree.
     pub fn worktree(&self) -> Result<Option<String>, AllocError> {
         copy_of(self.git.alloc, self.found.top.as_deref())
+    }
+
+    /// The version of the index that takes the place of its own one, which may have at most so many bytes: by a setting,
+    /// else that of the own one, and 2 or 3 if there is none (git-config(1), index.version).
+    pub fn next_version(&self, limit: u64) -> Version {
+        let own = match (&self.tree, &self.index) {
+            (None, Some(index)) => index_version(index.as_slice()),
+            _ => version_at(&self.git, self.found.index.as_str(), limit),
+        };
+        next_version(&self.git, &self.listing, own)
     }
 
     /// The shell's command that puts an index in place of its own.
@@ -157,11 +180,11 @@ impl GitRepo {
         Some(GitFault::NoScratch(self.lack.unmade?))
     }
 
-    /// The line of a report that refuses its tree, if its index couldn't be made since that tree, or one below it, is
-    /// lacking or broken.
+    /// Why its tree is refused, as words, if its index couldn't be made since that tree, or one below it, is lacking or
+    /// broken.
     pub fn tree_refusal(&self) -> Result<Option<String>, AllocError> {
         match &self.lack.bad {
-            Some(line) => Ok(Some(line.clone()?)),
+            Some(words) => Ok(Some(words.clone()?)),
             None => Ok(None),
         }
     }

@@ -1,13 +1,12 @@
 //! The lock of an index, which is also the place of the new one: `index.lock` beside it.
 use crate::keeper::Keeper;
-use git_answers::{Git, GitFault, Sharing};
+use file_stat::{Sharing, share_file};
+use git_answers::{Git, GitFault};
 use std::alloc::AllocError;
-use std::fs::{
-    File, OpenOptions, Permissions, canonicalize, remove_file, rename, symlink_metadata,
-};
+use std::fs::{File, OpenOptions, canonicalize, remove_file, rename, symlink_metadata};
 use std::io;
 use std::io::{ErrorKind, Write};
-use std::os::unix::fs::{OpenOptionsExt, PermissionsExt};
+use std::os::unix::fs::OpenOptionsExt;
 
 /// What a shell does with a lock: it says that it waits. Once it is told that the lock is made, it removes that at the
 /// end of its input, unless it is told before that the lock is gone. Signals that a terminal sends to both don't end
@@ -41,16 +40,6 @@ fn place_of(git: &Git, path: &str) -> Result<String, AllocError> {
     String::from_str(git.alloc, path)
 }
 
-/// Gives a new file the permissions that its repository says.
-fn share(file: &File, sharing: Sharing) -> io::Result<()> {
-    let made = file.metadata()?.permissions().mode() & 0o7777;
-    let mode = sharing.of_file(made);
-    if mode != made {
-        file.set_permissions(Permissions::from_mode(mode))?;
-    }
-    Ok(())
-}
-
 /// Makes the file of a lock where nothing is.
 fn make_new(rt: HostRuntime, path: &str) -> io::Result<File> {
     OpenOptions::new()
@@ -63,7 +52,7 @@ fn make_new(rt: HostRuntime, path: &str) -> io::Result<File> {
 /// Makes the file of a lock where nothing is, with the permissions that its repository says.
 fn make(rt: HostRuntime, path: &str, sharing: Sharing) -> io::Result<File> {
     let file = make_new(rt, path)?;
-    match share(&file, sharing) {
+    match share_file(&file, sharing) {
         Ok(()) => Ok(file),
         Err(error) => {
             let _ = remove_file(&rt, path);

@@ -12,6 +12,7 @@ mod index_lock;
 mod keeper;
 mod lender;
 mod lent;
+mod new_version;
 mod object_pool;
 mod object_reader;
 mod scratch;

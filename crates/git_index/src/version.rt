@@ -1,6 +1,9 @@
-ghost use Rattle.std.specs.Prelude.{◌≡◌};
-ghost use Rattle.git_index.specs.Spelling.{version_number};
-ghost use Rattle.git_index.specs.Reading.{version_at};
+ghost use Rattle.std.specs.Prelude.{◌≡◌, List, Some};
+ghost use Rattle.git_index.specs.Spelling.{IsIndex, version_number};
+ghost use Rattle.git_index.specs.Reading.{version_at, version_of};
+ghost use Rattle.git_index.specs.declared.entry.Entry.{Entry};
+
+use crate::field::number32_of;
 
 /// A version of an index that is read (gitformat-index(5)).
 #[derive(Clone, Copy, PartialEq, Eq)]
@@ -36,4 +39,15 @@ impl Version {
             Version::Four => 4,
         }
     }
+}
+
+/// The version of an index by its header, if the bytes have one of a version that is read.
+pub fn index_version(bytes: &[u8]) -> Option<Version>
+    ensures value { result ≡ version_of bytes.now }
+    ensures index { (entries : List Entry) (index : IsIndex bytes.now entries) → result ≡ Some index.text.version }
+{
+    if bytes.len() < 12 {
+        return None;
+    }
+    Version::of(number32_of(&bytes[4..8]))
 }

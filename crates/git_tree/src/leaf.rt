@@ -194,9 +194,10 @@ impl GitLeaf {
         Ok(())
     }
 
-    /// Makes a link whose text is what was put.
+    /// Makes a link whose text is what was put, up to the first NUL: the system knows no other text.
     fn make_link(&self) -> io::Result<()> {
-        match str::from_utf8(self.text.as_slice()) {
+        let text = self.text.as_slice().split(|byte| *byte == 0).next();
+        match str::from_utf8(text.unwrap_or(&[])) {
             Ok(text) => link_in_tree(self.rt, text, self.place.full(), self.place.top()),
             Err(_) => Err(io::Error::from(ErrorKind::InvalidFilename)),
         }

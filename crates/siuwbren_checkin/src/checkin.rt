@@ -1,14 +1,17 @@
 //! A check-in into a git folder.
 use crate::engine_words::checkin_words;
-use checkin_edge::{FolderFiles, FolderKeep, HeldEntry, ObjectForm};
-use checkout_engine::ExitStatus;
+use checkin_edge::{FolderFiles, FolderKeep, HeldEntry, ObjectForm, OtherKind};
 use edge_adapters::ProcessSpawner;
-use git_edge::GitRepo;
+use edge_kit::Repo;
+use exit_status::ExitStatus;
+use file_stat::Sharing;
+use git_edge::{GitRepo, IndexLock};
 use program_kit::{EndedCheckin, check_in, show_refused_path};
-use report_forms::ReportForm;
+use reports::ReportForm;
 use siuwbren_index::{
-    CheckedIn, end_run, end_with, hold_assumed, index_lock, index_of_checkin, links_of, put_made,
-    refuse_guarded, refuse_repository, refused_tree, say, show_kept, show_notes, tree_of,
+    CheckedIn, IndexMarks, LookedPaths, MOST_INDEX, end_run, end_with, hold_assumed, index_lock,
+    index_of_checkin, links_of, put_beside, put_made, refuse_guarded, refuse_repository,
+    refused_tree, say, show_kept, show_notes, take_kinds, tree_of,
 };
 use siuwbren_words::CheckinWords;
 use std::alloc::AllocError;
@@ -20,22 +23,58 @@ fn new_index(rt: HostRuntime, repo: &GitRepo) -> Result<String, AllocError> {
     format!(in rt.alloc(); "{}-checkin", repo.index_file())
 }
 
-/// What keeps objects among those of a repository, and an index with these entries as they were: beside its own, or in
-/// memory if that is to be updated. It touches nothing.
+/// What is known of a repository before its files are checked in.
+#[derive(Drop)]
+struct Before {
+    /// The entries that stay as they are.
+    held: Vec<HeldEntry>,
+    /// The entries whose files are of another kind.
+    kinds: Vec<OtherKind>,
+    /// The index, if git is to take each changed file for what its entry says.
+    index: Option<Vec<u8>>,
+    sharing: Sharing,
+}
+
+/// The index of a repository, if git is to take each file that is checked in for what its entry says (core.ignoreStat).
+fn ignored_before(repo: &mut GitRepo, is_update: bool) -> Option<Vec<u8>> {
+    if is_update && repo.ignores_stat() {
+        repo.index_bytes(MOST_INDEX).ok()?
+    } else {
+        None
+    }
+}
+
+/// Has the repository give the index by which the files of this folder are checked in.
+fn prepare(
+    rt: HostRuntime,
+    repo: &mut GitRepo,
+    tree: &str,
+    sharing: Sharing,
+    is_update: bool,
+) -> Result<Before, AllocError> {
+    let index = ignored_before(repo, is_update);
+    let held = hold_assumed(rt, repo)?;
+    let kinds = take_kinds(rt, repo, tree)?;
+    Ok(Before {
+        held,
+        kinds,
+        index,
+        sharing,
+    })
+}
+
+/// What keeps objects among those of a repository, and in memory an index with these entries as they were. It touches
+/// nothing.
 fn keep_of(
     rt: HostRuntime,
     repo: &GitRepo,
     held: Vec<HeldEntry>,
-    is_update: bool,
+    sharing: Sharing,
 ) -> Result<FolderKeep, AllocError> {
     let objects = String::from_str(rt.alloc(), repo.objects())?;
     let index = new_index(rt, repo)?;
-    let keep = FolderKeep::new(rt, objects, index, ObjectForm::Zlib).holding(held);
-    Ok(if is_update {
-        keep.holding_index()
-    } else {
-        keep
-    })
+    let keep = FolderKeep::new(rt, objects, index, ObjectForm::Zlib);
+    Ok(keep.holding(held).sharing(sharing).holding_index())
 }
 
 /// The files of a folder, with the links that the index has. They keep what an index is to tell of them, if it is to be
@@ -61,10 +100,20 @@ fn spawner_of(rt: HostRuntime, repo: &GitRepo) -> Result<ProcessSpawner, AllocEr
     ProcessSpawner::in_place(rt, repo.driver_place()?)
 }
 
-/// The index of a check-in that has ended, if it is kept in memory, with what is told of its files.
-fn made_index(rt: HostRuntime, ended: &EndedCheckin) -> Result<Option<Vec<u8>>, AllocError> {
+/// The index of a check-in that has ended, with these marks and with what is told of its files.
+fn made_index(
+    rt: HostRuntime,
+    ended: &EndedCheckin,
+    marks: IndexMarks<'_>,
+) -> Result<Option<Vec<u8>>, AllocError> {
     let told = ended.stats(rt.alloc())?;
-    index_of_checkin(rt.alloc(), ended.status(), ended.index(), told.as_slice())
+    let looked = LookedPaths {
+        status: ended.status(),
+        made: ended.index(),
+        failed: ended.failed(),
+        told: told.as_slice(),
+    };
+    index_of_checkin(rt.alloc(), looked, marks)
 }
 
 /// Checks in the files of a folder into a repository that is open.
@@ -73,16 +122,27 @@ fn check_in_with<H: Threads + Wait + Sync>(
     threads: &H,
     tree: &str,
     repo: &mut GitRepo,
+    before: Before,
     is_update: bool,
 ) -> Result<CheckedIn, AllocError> {
-    let held = hold_assumed(rt, repo)?;
-    let keep = keep_of(rt, repo, held, is_update)?;
+    let Before {
+        held,
+        kinds,
+        index,
+        sharing,
+    } = before;
+    let keep = keep_of(rt, repo, held, sharing)?;
     let files = files_of(rt, repo, tree, is_update)?;
     let words = checkin_words(rt.alloc(), repo.git_dir(), tree)?;
     let spawner = spawner_of(rt, repo)?;
     let ended = check_in(rt, threads, words.as_slice(), repo, spawner, files, keep)?;
     ended.show_notes(rt);
-    let index = made_index(rt, &ended)?;
+    let marks = IndexMarks {
+        version: repo.next_version(MOST_INDEX),
+        kinds: kinds.as_slice(),
+        before: index.as_deref(),
+    };
+    let index = made_index(rt, &ended, marks)?;
     Ok(CheckedIn {
         status: ended.end(),
         index,
@@ -100,47 +160,53 @@ fn show_index(rt: HostRuntime, repo: &GitRepo) -> Result<(), AllocError> {
     Ok(())
 }
 
-/// Says what else is to be said of a status, of a repository and of the folder that was checked in, and where the new
-/// index is if it doesn't take the place of the old one.
-fn explain(
-    rt: HostRuntime,
-    status: u8,
-    repo: &mut GitRepo,
-    tree: &str,
-    is_update: bool,
-) -> Result<(), AllocError> {
+/// Says what else is to be said of a status, of a repository and of the folder that was checked in.
+fn explain(rt: HostRuntime, status: u8, repo: &mut GitRepo, tree: &str) -> Result<(), AllocError> {
     end_run(rt, status, repo);
     match ExitStatus::of(status) {
         Some(ExitStatus::Refused) => show_refused_path(rt, repo),
-        Some(ExitStatus::Done | ExitStatus::DoneWithFailures) => {
-            if !is_update {
-                show_index(rt, repo)?;
-            }
-            show_kept(rt, repo, tree)?;
-        }
+        Some(ExitStatus::Done | ExitStatus::DoneWithFailures) => show_kept(rt, repo, tree)?,
         _ => {}
     }
     show_notes(rt, repo);
     Ok(())
 }
 
-/// Checks in the files of this folder, once it is clear that they are meant.
-fn check_in_folder<H: Threads + Wait + Sync>(
+/// The permissions of a repository's new files, or the status if the files of this folder aren't to be checked in.
+fn allowed_sharing(
     rt: HostRuntime,
-    threads: &H,
     asked: &CheckinWords<'_>,
     repo: &mut GitRepo,
     tree: &str,
-) -> Result<CheckedIn, AllocError> {
+) -> Result<Result<Sharing, u8>, AllocError> {
     if let Some(status) = refuse_guarded(rt, repo, ReportForm::Text)? {
-        return Ok(CheckedIn::refused(end_with(rt, status.number())));
+        return Ok(Err(end_with(rt, status.number())));
     }
     if let Some(status) = refused_tree(rt, repo, tree, asked)? {
-        return Ok(CheckedIn::refused(status.number()));
+        return Ok(Err(status.number()));
     }
-    let left = check_in_with(rt, threads, tree, repo, asked.update_index)?;
-    explain(rt, left.status, repo, tree, asked.update_index)?;
-    Ok(left)
+    match repo.sharing() {
+        Ok(sharing) => Ok(Ok(sharing)),
+        Err(fault) => Ok(Err(refuse_repository(rt, &fault))),
+    }
+}
+
+/// Puts the index of a check-in into its place, and gives the status then. It says where the index is if that isn't the
+/// place of the repository's own.
+fn put_index_of(
+    rt: HostRuntime,
+    repo: &GitRepo,
+    lock: Option<IndexLock>,
+    left: &CheckedIn,
+) -> Result<u8, AllocError> {
+    if let Some(lock) = lock {
+        return put_made(rt, lock, left);
+    }
+    let status = put_beside(rt, new_index(rt, repo)?.as_str(), left)?;
+    if left.index.is_some() && status == left.status {
+        show_index(rt, repo)?;
+    }
+    Ok(status)
 }
 
 /// Checks in the files of the folder that the words name.
@@ -158,8 +224,15 @@ fn check_in_words<H: Threads + Wait + Sync>(
         Ok(lock) => lock,
         Err(status) => return Ok(status),
     };
-    let left = check_in_folder(rt, threads, asked, repo, tree.as_str())?;
-    put_made(rt, lock, &left)
+    let tree = tree.as_str();
+    let sharing = match allowed_sharing(rt, asked, repo, tree)? {
+        Ok(sharing) => sharing,
+        Err(status) => return Ok(status),
+    };
+    let before = prepare(rt, repo, tree, sharing, asked.update_index)?;
+    let left = check_in_with(rt, threads, tree, repo, before, asked.update_index)?;
+    explain(rt, left.status, repo, tree)?;
+    put_index_of(rt, repo, lock, &left)
 }
 
 /// Checks in the files of a folder. No process of git is left running.

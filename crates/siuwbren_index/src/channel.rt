@@ -1,6 +1,6 @@
 //! Where a report goes.
 use edge_adapters::OutputSink;
-use report_forms::{FormSink, ReportForm};
+use reports::ReportForm;
 use std::io;
 use std::io::{Stderr, Stdout, Write};
 
@@ -25,10 +25,10 @@ impl Write for Channel {
 }
 
 /// What takes a report or a plan in this form.
-pub fn sink_of(rt: HostRuntime, form: ReportForm) -> FormSink<OutputSink<Channel>> {
+pub fn sink_of(rt: HostRuntime, form: ReportForm) -> OutputSink<Channel> {
     let channel = match form {
         ReportForm::Failures => Channel::Errors(rt.stderr()),
         ReportForm::Text | ReportForm::Nul | ReportForm::Json => Channel::Output(rt.stdout()),
     };
-    FormSink::new(rt.alloc(), form, OutputSink::new(rt, channel))
+    OutputSink::new(rt, channel)
 }

@@ -1,6 +1,6 @@
 //! What standard error says of how a command ended.
 use crate::faults::refuse_repository;
-use checkout_engine::ExitStatus;
+use exit_status::ExitStatus;
 use git_edge::GitRepo;
 use program_kit::message_of;
 

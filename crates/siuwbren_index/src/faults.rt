@@ -1,5 +1,5 @@
 //! What standard error says of a repository that can't be used.
-use checkout_engine::ExitStatus;
+use exit_status::ExitStatus;
 use git_edge::GitFault;
 
 /// Writes a line on standard error.

@@ -12,16 +12,20 @@ mod ends;
 mod faults;
 mod guarded;
 mod kept_notes;
+mod kinds;
 mod own_index;
 mod update_index;
 mod worktree;
 
 pub use assumed::hold_assumed;
 pub use channel::{Channel, sink_of};
-pub use checkin_index::{CheckedIn, index_of_checkin, put_made};
+pub use checkin_index::{
+    CheckedIn, IndexMarks, LookedPaths, index_of_checkin, put_beside, put_made,
+};
 pub use ends::{end_run, end_with, show_notes};
 pub use faults::{refuse_repository, say};
 pub use kept_notes::show_kept;
-pub use own_index::{allowed_submodules, links_of, refuse_guarded};
+pub use kinds::take_kinds;
+pub use own_index::{MOST_INDEX, allowed_submodules, links_of, refuse_guarded};
 pub use update_index::{index_lock, put_index, updated_index};
 pub use worktree::{refused_tree, tree_of};

@@ -4,11 +4,11 @@ use crate::faults::say;
 use crate::guarded::is_guarded;
 use byte_path::{Bytes, quote_path};
 use checkin_edge::IndexLinks;
-use checkout_engine::ExitStatus;
-use edge_kit::{Repo, SendFault, Sink};
+use edge_kit::Repo;
+use exit_status::ExitStatus;
 use git_edge::{GitRepo, Guards};
 use git_index::{Entry, Index, Mode, read_index};
-use report_forms::ReportForm;
+use reports::{ReportForm, Row, spelled};
 use std::alloc::{AllocError, Global};
 
 /// The most bytes of an index that is read.
@@ -50,25 +50,23 @@ fn is_guarded_entry(entry: &Entry, guards: Guards) -> bool {
     )
 }
 
-/// Writes the line of a refusal in the form of the report, and gives the status.
-fn write_refusal(rt: HostRuntime, line: &str, form: ReportForm) -> Result<ExitStatus, AllocError> {
+/// Says these words of a refusal in the form of the report, and gives the status.
+fn say_refusal(rt: HostRuntime, words: &str, form: ReportForm) -> Result<ExitStatus, AllocError> {
+    let row = Row::Refusal(words.as_bytes());
+    let text = spelled(rt.alloc(), form, &row)?;
     let mut out = sink_of(rt, form);
-    match out.write(line.as_bytes()) {
-        Ok(()) => Ok(ExitStatus::Refused),
-        Err(SendFault::Failed) => Ok(ExitStatus::OutputNotWritten),
-        Err(SendFault::NoMemory) => Err(AllocError),
-    }
+    Ok(exit_status::say(&mut out, &text, ExitStatus::Refused))
 }
 
-/// Writes the refusal of the entry with this number in the form of the report, and gives the status.
+/// Says the refusal of the entry with this number in the form of the report, and gives the status.
 fn refuse(
     rt: HostRuntime,
     number: usize,
     entry: &Entry,
     form: ReportForm,
 ) -> Result<ExitStatus, AllocError> {
-    let line = format!(in rt.alloc(); "refused index path {number} dot-git\n")?;
-    let status = write_refusal(rt, line.as_str(), form)?;
+    let words = format!(in rt.alloc(); "index path {number} dot-git")?;
+    let status = say_refusal(rt, words.as_str(), form)?;
     if !matches!(status, ExitStatus::Refused) {
         return Ok(status);
     }
@@ -103,7 +101,7 @@ fn refuse_tree(
     form: ReportForm,
 ) -> Result<Option<ExitStatus>, AllocError> {
     match repo.tree_refusal()? {
-        Some(line) => Ok(Some(write_refusal(rt, line.as_str(), form)?)),
+        Some(words) => Ok(Some(say_refusal(rt, words.as_str(), form)?)),
         None => Ok(None),
     }
 }

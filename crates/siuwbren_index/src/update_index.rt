@@ -1,12 +1,14 @@
 //! The index that a checkout or a check-in leaves, with what is told of its files, so that git needn't read them.
+ghost use Rattle.git_index.specs.Spelling.{CanStand};
+
 use crate::faults::{refuse_repository, say};
 use crate::own_index::MOST_INDEX;
 use crate::worktree::is_same_folder;
 use checkin_edge::{RawEntry, RawIndex};
-use checkout_engine::ExitStatus;
 use edge_kit::Repo;
+use exit_status::ExitStatus;
 use git_edge::{GitFault, GitRepo, IndexLock};
-use git_index::{Entry, Stat, entries_can_stand, read_index, spell_stat_index};
+use git_index::{Entry, Stat, Version, entries_can_stand, read_index, spell_stat_index};
 use std::alloc::{AllocError, Global};
 use tree_cache::{TreeCache, cache_of, with_tree_cache};
 
@@ -96,6 +98,8 @@ pub struct ToldFiles<'a> {
     pub files: &'a [(&'a [u8], Stat)],
     /// Whether git is to take these files for what their entries say (core.ignoreStat).
     pub are_assumed: bool,
+    /// An index before, if git is to take those of these files so that have changed since.
+    pub before: Option<&'a [u8]>,
 }
 
 /// What an index tells of the file of each entry, by what is told of files in the order of the entries.
@@ -115,6 +119,79 @@ fn stats_of(
         stats.push(stat_of(entry, raw, found, told.are_assumed))?;
     }
     Ok(stats)
+}
+
+/// An index before.
+#[derive(Clone, Copy)]
+struct Former<'a> {
+    entries: &'a [Entry],
+    raw: &'a [RawEntry<'a>],
+}
+
+/// Whether two entries tell the same of their files.
+fn tell_the_same(former: &RawEntry<'_>, raw: &RawEntry<'_>) -> bool {
+    let [times, inode, owner] = former.told();
+    let [times_now, inode_now, owner_now] = raw.told();
+    times == times_now && inode == inode_now && owner == owner_now
+}
+
+impl Former<'_> {
+    /// Whether an index before has this entry with the same object, mode and file.
+    fn has(&self, entry: &Entry, raw: &RawEntry<'_>) -> bool {
+        let place = self.entries.binary_search_by(|former| {
+            let paths = former.path.as_slice().cmp(entry.path.as_slice());
+            paths.then(former.stage.cmp(&entry.stage))
+        });
+        let Ok(place) = place else {
+            return false;
+        };
+        match (self.entries.get(place), self.raw.get(place)) {
+            (Some(former), Some(spelled)) => {
+                former.name == entry.name
+                    && former.mode == entry.mode
+                    && tell_the_same(spelled, raw)
+            }
+            _ => false,
+        }
+    }
+}
+
+/// Has git take each file that is told of, and that an index before hasn't so, for what its entry says.
+fn assume_changed(stats: &mut [Stat], entries: &[Entry], raw: &[RawEntry<'_>], former: Former<'_>) {
+    let spelled = entries.iter().zip(raw.iter());
+    for (stat, (entry, raw)) in stats.iter_mut().zip(spelled) {
+        let is_told = stat.ctime != 0 || stat.mtime != 0;
+        if is_told && !former.has(entry, raw) {
+            stat.valid = true;
+        }
+    }
+}
+
+/// The index of these entries with these stats, where git is to take each file that has changed since an index before
+/// for what its entry says.
+fn with_assumed(
+    alloc: Global,
+    version: Version,
+    entries: &[Entry],
+    stats: &mut [Stat],
+    before: &[u8],
+) -> Result<Vec<u8>, AllocError>
+    requires { CanStand entries.now }
+{
+    let spelled = spell_stat_index(alloc, version, entries, stats)?;
+    let (Ok(former), Some(former_raw), Some(raw)) = (
+        read_index(alloc, before),
+        RawIndex::read(alloc, before)?,
+        RawIndex::read(alloc, spelled.as_slice())?,
+    ) else {
+        return Ok(spelled);
+    };
+    let former = Former {
+        entries: former.entries(),
+        raw: former_raw.entries.as_slice(),
+    };
+    assume_changed(stats, entries, raw.entries.as_slice(), former);
+    spell_stat_index(alloc, version, entries, stats)
 }
 
 /// The tree cache of these entries, if the tree with this name has just these. Then that tree and those below it are
@@ -155,10 +232,11 @@ fn with_trees(
     Ok(cached)
 }
 
-/// An index with the entries of this one, and with what is told of their files, if it can be read. If a tree is named
-/// that has just these entries, it has the cache of that.
+/// An index of this version with the entries of this one, and with what is told of their files, if it can be read. If a
+/// tree is named that has just these entries, it has the cache of that.
 pub fn with_stats(
     alloc: Global,
+    version: Version,
     index: &[u8],
     told: ToldFiles<'_>,
     tree: Option<[u8; 20]>,
@@ -166,9 +244,13 @@ pub fn with_stats(
     let (Ok(read), Some(raw)) = (read_index(alloc, index), RawIndex::read(alloc, index)?) else {
         return Ok(None);
     };
-    let stats = stats_of(alloc, read.entries(), raw.entries.as_slice(), told)?;
+    let entries = read.entries();
+    let mut stats = stats_of(alloc, entries, raw.entries.as_slice(), told)?;
     entries_can_stand();
-    let spelled = spell_stat_index(alloc, read.entries(), stats.as_slice())?;
+    let spelled = match told.before {
+        Some(before) => with_assumed(alloc, version, entries, stats.as_mut_slice(), before)?,
+        None => spell_stat_index(alloc, version, entries, stats.as_slice())?,
+    };
     match tree {
         Some(tree) => Ok(Some(with_trees(alloc, spelled, read.entries(), &tree)?)),
         None => Ok(Some(spelled)),
@@ -184,9 +266,14 @@ pub fn updated_index(
     let told = ToldFiles {
         files: told,
         are_assumed: repo.ignores_stat(),
+        before: None,
     };
     match repo.index_bytes(MOST_INDEX) {
-        Ok(Some(index)) => with_stats(rt.alloc(), index.as_slice(), told, repo.wanted_tree()),
+        Ok(Some(index)) => {
+            let version = repo.next_version(MOST_INDEX);
+            let tree = repo.wanted_tree();
+            with_stats(rt.alloc(), version, index.as_slice(), told, tree)
+        }
         _ => Ok(None),
     }
 }

@@ -1,7 +1,7 @@
 //! The folder that is checked in, looked at before anything is kept: a wrong one would make all its paths deleted ones.
 use crate::faults::say;
 use crate::own_index::index_of;
-use checkout_engine::ExitStatus;
+use exit_status::ExitStatus;
 use git_edge::GitRepo;
 use git_index::Entry;
 use siuwbren_words::CheckinWords;
