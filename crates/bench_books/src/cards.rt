@@ -8,7 +8,7 @@ use byte_path::Bytes;
 use checkout_core::Start;
 use convert_plan::{Card, Conversion, prepare};
 use edge_kit::{Blob, Leaf, Mark, Repo, Worktree};
-use eol_convert::LineEnds;
+use eol_convert::Action;
 use object_dir::read_blob;
 use std::alloc::{AllocError, Global};
 
@@ -34,7 +34,7 @@ pub fn new_card<R: Repo, W: Worktree>(
         mark: Mark::Plain,
         conversion: Conversion {
             ident: false,
-            ends: LineEnds::Keep,
+            action: Action::Binary,
             encoding: None,
         },
         blob,

@@ -27,10 +27,11 @@ use Rattle.checkout_book.specs.Passes.{Claims, Closes, TookNone, TookCard, Keeps
 use Rattle.card_worker.specs.declared.hand.Hand.{Hand}
 use Rattle.card_worker.specs.declared.held.Held.{Held}
 use Rattle.card_worker.specs.declared.written.Written.{Written}
-use Rattle.card_worker.specs.Fours.{items}
+use Rattle.card_worker.specs.Fews.{items}
 use Rattle.card_worker.specs.Turns.{TurnSteps}
-use Rattle.card_worker.specs.Holding.{HoldsCard, WritesHeld, Shift, paths_in, claims_in, IsHeld, AreHeld, IsHand, IsInHand, SawNone, AreSame, IsToBeWritten, IsWrittenSo}
+use Rattle.card_worker.specs.Holding.{HoldsCard, WritesHeld, Shift, paths_in, claims_in, IsHeld, AreHeld, IsHand, IsInHand, SawNone, AreSame, AreSameSlots, IsToBeWritten, IsWrittenSo}
 use Rattle.card_worker.specs.Working.{IsReady, Idled, own_events}
+use Rattle.card_worker.proofs.SameCards.{same_more, same_items}
 use Rattle.card_worker.proofs.TurnSteps.{claims_more, closes_more}
 use Rattle.card_worker.proofs.WorkTurns.{begins_trans, noted_more, planned_to_write, held_may_close, out_again, shown, shown_more}
 
@@ -169,7 +170,7 @@ module _ {B L : Type 0} (see : Sight B L) where
 
   -- a hand with one card more
   pub hand_claims : (lock : TableId) (w : Shift B L) (s t : SeatView HistoryEntry (BookPlan B L)) (x : Core)
-      (hs : List (Held B L)) (h : Held B L) (k : Card B L) (i : IsHand see lock w s hs) → length hs < 8
+      (hs : List (Held B L)) (h : Held B L) (k : Card B L) (i : IsHand see lock w s hs) → length hs < 64
       → TookCard see lock w.plan (number_of s) w.made s t i.core x k
       → HoldsCard (seen see k) (seen see h.card) h.taken → IsHand see lock w t (hs ++ h ∷ [])
   hand_claims lock w s t x hs h k i few took0 holds =
@@ -203,7 +204,7 @@ module _ {B L : Type 0} (see : Sight B L) where
             (subst (λ (l : List Event). TurnSteps [] l (claims_in n hs ++ Claim k.path n ∷ []))
             (sym (map-append (λ (e : HistoryEntry). e.event) i.more one))
             (claims_more (own_events i.more) (claims_in n hs) k.path n i.turns
-            (subst (λ (z : ℕ). z < 8) (sym (length-map hs (λ (g : Held B L). Claim g.card.path n))) few)));
+            (subst (λ (z : ℕ). z < 64) (sym (length-map hs (λ (g : Held B L). Claim g.card.path n))) few)));
         shown = shown_more see (cards_of w.plan) i.more one i.shown (tt, tt);
         quiet = ap noted (map-append (λ (e : HistoryEntry). e.event) i.more one)
             ∙ noted_more (own_events i.more) (own_events one) refl i.quiet;
@@ -347,17 +348,6 @@ module _ {B L : Type 0} (see : Sight B L) where
 
   -- ---- the same cards
 
-  pub same_more : (xs ys us vs : List (Held B L)) → AreSame see xs ys → AreSame see us vs
-      → AreSame see (xs ++ us) (ys ++ vs)
-  same_more [] [] us vs h k = k
-  same_more (x ∷ xs) (y ∷ ys) us vs h k = (h.0, same_more xs ys us vs h.1 k)
-  same_more [] (y ∷ ys) us vs h k = absurd h
-  same_more (x ∷ xs) [] us vs h k = absurd h
-
-  pub same_all : (hs : List (Held B L)) → AreSame see hs hs
-  same_all [] = tt
-  same_all (h ∷ hs) = ((refl, λ claimed holds. holds), same_all hs)
-
   same_paths : (hs ks : List (Held B L)) → AreSame see hs ks → paths_in ks ≡ paths_in hs
   same_paths [] [] a = refl
   same_paths (h ∷ hs) (k ∷ ks) a = ap (λ (p : ℕ). p ∷ paths_in ks) a.0.0
@@ -406,12 +396,14 @@ module _ {B L : Type 0} (see : Sight B L) where
 
   -- a hand of which the SHA-1 were found, or whose next objects were read
   pub hand_found : (lock : TableId) (w : Shift B L) (x y : Hand B L) → y.pass ≡ x.pass
-      → AreSame see (items x.cards) (items y.cards) → AreSame see (items x.next) (items y.next)
+      → AreSameSlots see x.cards.slots.items y.cards.slots.items → AreSameSlots see x.next.slots.items y.next.slots.items
       → IsInHand see lock w x → IsInHand see lock w y
   hand_found lock w x y pass same next i =
       subst (λ (s : SeatView HistoryEntry (BookPlan B L)). IsHand see lock w s (items y.cards ++ items y.next)) (sym pass)
       (hand_same lock w x.pass (items x.cards ++ items x.next) (items y.cards ++ items y.next)
-      (same_more (items x.cards) (items y.cards) (items x.next) (items y.next) same next) i)
+      (same_more see (items x.cards) (items y.cards) (items x.next) (items y.next)
+      (same_items see x.cards.slots.items y.cards.slots.items same)
+      (same_items see x.next.slots.items y.next.slots.items next)) i)
 
   -- a hand that goes on to the cards after those that were closed
   pub hand_goes_on : (lock : TableId) (w : Shift B L) (x y : Hand B L) → y.pass ≡ x.pass → items x.cards ≡ []

@@ -1,5 +1,7 @@
 pub mod TurnSteps
 pub mod WorkTurns
-pub mod FourLemmas
+pub mod FewLemmas
 pub mod HeldCards
+pub mod Digests
+pub mod SameCards
 pub mod Hands

@@ -10,7 +10,7 @@ steps_more : (xs ys : List Event) (t m u : List Event) → TurnSteps t xs m → 
 steps_more [] ys t m u h k = subst (λ (z : List Event). TurnSteps z ys u) (sym h) k
 steps_more (x ∷ xs) ys t m u h k = (h.0, h.1, steps_more xs ys h.0 m u h.2 k)
 
-pub claims_more : (es claims : List Event) (p a : ℕ) → TurnSteps [] es claims → length claims < 8
+pub claims_more : (es claims : List Event) (p a : ℕ) → TurnSteps [] es claims → length claims < 64
     → TurnSteps [] (es ++ Claim p a ∷ []) (claims ++ Claim p a ∷ [])
 claims_more es claims p a h few =
     let u : List Event = claims ++ Claim p a ∷ [] in

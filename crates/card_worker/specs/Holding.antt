@@ -1,5 +1,5 @@
 -- What a worker has in hand.
-use Rattle.std.specs.Prelude.{◌≡◌, ◌++◌, ℕ, true, List, [], ◌∷◌, map, Option, Some, None, is_some}
+use Rattle.std.specs.Prelude.{◌≡◌, ◌++◌, ℕ, true, List, [], ◌∷◌, map, Option, Some, None, is_some, option_to_list}
 use Rattle.atomic_table.specs.Seated.{TableId}
 use Rattle.turn_lock.specs.History.{Begins}
 use Rattle.turn_lock.specs.Seat.{SeatView, mine_of, seen_of}
@@ -27,7 +27,7 @@ use Rattle.checkout_book.specs.Turns.{NoneWaits}
 use Rattle.driver_desk.specs.Cards.{KeepsCard}
 use Rattle.card_worker.specs.declared.held.Held.{Held}
 use Rattle.card_worker.specs.declared.hand.Hand.{Hand}
-use Rattle.card_worker.specs.Fours.{items}
+use Rattle.card_worker.specs.Fews.{items}
 use Rattle.card_worker.specs.declared.written.Written.{Written}
 use Rattle.card_worker.specs.Turns.{TurnSteps}
 use Rattle.card_worker.specs.Working.{AreShown, own_events}
@@ -84,6 +84,13 @@ module _ {B L : Type 0} (see : Sight B L) where
   AreSame (h ∷ hs) (k ∷ ks) = SameHeld h k × AreSame hs ks
   AreSame [] (k ∷ ks) = ⊥
   AreSame (h ∷ hs) [] = ⊥
+
+  -- the slots hold the same cards
+  abbrev pub AreSameSlots : List (Option (Held B L)) → List (Option (Held B L)) → Type 0
+  AreSameSlots [] [] = Unit {0}
+  AreSameSlots (x ∷ xs) (y ∷ ys) = AreSame (option_to_list x) (option_to_list y) × AreSameSlots xs ys
+  AreSameSlots [] (y ∷ ys) = ⊥
+  AreSameSlots (x ∷ xs) [] = ⊥
 
   -- the actor has the path of a planned card in hand, and this is the card as it was claimed
   pub record IsClaimed (cards : List (Card B L)) (c : Core) (n : ℕ) (card : Card B L) : Type 0 where

@@ -1,5 +1,5 @@
 pub mod Writing
 pub mod Turns
 pub mod Working
-pub mod Fours
+pub mod Fews
 pub mod Holding

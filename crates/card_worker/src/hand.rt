@@ -1,13 +1,13 @@
-//! The cards that a worker has in hand: it claims up to four, and up to four more to read ahead. It writes and closes
-//! them in the same order.
-ghost use Rattle.std.specs.Prelude.{◌≡◌, ◌<◌, ◌++◌, ◌∷◌, [], List, true, false, None, length};
+//! The cards that a worker has in hand: it claims up to 32, and up to as many more to read ahead. It writes and
+//! closes them in the same order.
+ghost use Rattle.std.specs.Prelude.{◌≡◌, ◌<◌, ◌≤◌, ◌++◌, ◌∷◌, [], List, true, false, None, length, option_to_list};
 ghost use Rattle.checkout_book.specs.Sights.{sight};
 ghost use Rattle.card_worker.specs.declared.held.Held.{Held};
-ghost use Rattle.card_worker.specs.Fours.{items, of_slot};
-ghost use Rattle.card_worker.specs.Holding.{Shift, IsHand, IsInHand, IsWrittenSo, AreSame, SawNone};
+ghost use Rattle.card_worker.specs.Fews.{HasRoom, items};
+ghost use Rattle.card_worker.specs.Holding.{Shift, IsHand, IsInHand, IsWrittenSo, AreSameSlots, SawNone};
 
-use crate::ahead::{is_worth_ahead, read_and_find, stored_len};
-use crate::four::Four;
+use crate::ahead::{find_and_read, find_sha1, is_enough, is_worth_ahead};
+use crate::few::{Few, ROOM};
 use crate::held::{Held, Reading, hold_card, write_held};
 use crate::written::Written;
 use checkout_book::book::{Book, Pass, claim, close};
@@ -18,14 +18,11 @@ use std::mem::{replace, swap};
 use std::sync::Wait;
 use std::thread::Threads;
 
-/// Past so many stored bytes no more cards are claimed.
-const ENOUGH: usize = 8 << 20;
-
 /// With what an actor works.
 #[derive(Clone, Copy)]
 pub struct Gathering {
     pub alloc: Global,
-    /// Below this path cards are plenty: an actor claims up to eight before it writes one.
+    /// Below this path cards are plenty: an actor claims up to 64 before it writes one.
     pub below: usize,
 }
 
@@ -33,9 +30,9 @@ pub struct Gathering {
 pub(crate) struct Hand<B: Blob, L: Leaf> {
     pub pass: Pass<B, L>,
     /// Those that are written next.
-    pub cards: Four<Held<B, L>>,
+    pub cards: Few<Held<B, L>>,
     /// Those after them, which are read while the SHA-1 of the others are found.
-    pub next: Four<Held<B, L>>,
+    pub next: Few<Held<B, L>>,
 }
 
 /// Claims a card, and takes the stored bytes of its object now or later. The gate is called between.
@@ -47,10 +44,10 @@ fn claim_next<B: Blob, L: Leaf, G: Gate, H: Wait>(
     reading: Reading,
 ) -> Option<Held<B, L>>
     requires { (w : Shift B L) × (hs : List (Held B L))
-        × IsHand (sight B.told B.seen L.seen) book.now w pass.old hs × (length hs < 8) }
+        × IsHand (sight B.told B.seen L.seen) book.now w pass.old hs × (length hs < 64) }
     ensures hand { (w : Shift B L) (hs : List (Held B L))
-        → IsHand (sight B.told B.seen L.seen) book.now w pass.old hs → length hs < 8
-        → IsHand (sight B.told B.seen L.seen) book.now w pass.new (hs ++ of_slot result) }
+        → IsHand (sight B.told B.seen L.seen) book.now w pass.old hs → length hs < 64
+        → IsHand (sight B.told B.seen L.seen) book.now w pass.new (hs ++ option_to_list result) }
     ensures none { result ≡ None → (w : Shift B L) (hs : List (Held B L))
         → IsHand (sight B.told B.seen L.seen) book.now w pass.old hs → SawNone book.now w pass.new }
 {
@@ -85,31 +82,34 @@ fn close_written<B: Blob, L: Leaf, G: Gate, H: Wait>(
 }
 
 /// The path of the card that was claimed last, if there is one.
-fn last_path<B: Blob, L: Leaf>(cards: &Four<Held<B, L>>) -> Option<u32> {
-    match &cards.fourth {
-        Some(held) => Some(held.card.path),
-        None => None,
+fn last_path<B: Blob, L: Leaf>(cards: &Few<Held<B, L>>) -> Option<u32> {
+    match cards.slots.last() {
+        Some(Some(held)) => Some(held.card.path),
+        Some(None) | None => None,
     }
 }
 
 impl<B: Blob + Send, L: Leaf + Send> Hand<B, L> {
     /// Whether one more card is worth claiming: there is room for it, the last path is one below which cards are
-    /// plenty, and not too many bytes were taken.
+    /// plenty, and those in hand aren't enough.
     fn wants_more(&self, below: usize) -> bool
-        ensures { result ≡ true → self.now.cards.first ≡ None }
+        ensures { result ≡ true → HasRoom self.now.cards }
     {
         self.cards.has_room()
             && match last_path(&self.cards) {
-                Some(path) => (path as usize) < below && stored_len(&self.cards) < ENOUGH,
+                Some(path) => (path as usize) < below && !is_enough(self.cards.slots.as_slice()),
                 None => true,
             }
     }
 
-    /// Whether one more card is worth claiming ahead.
+    /// Whether one more card is worth claiming ahead: there are fewer than are written next, and cards are plenty.
     fn wants_ahead(&self, below: usize) -> bool
-        ensures { result ≡ true → self.now.next.first ≡ None }
+        ensures room { result ≡ true → HasRoom self.now.next }
+        ensures few { result ≡ true → length self.now.cards.slots.items ≤ 32 }
     {
         self.next.has_room()
+            && self.cards.len() <= ROOM
+            && self.next.len() < self.cards.len()
             && match last_path(&self.next).or(last_path(&self.cards)) {
                 Some(path) => (path as usize) < below,
                 None => false,
@@ -118,7 +118,7 @@ impl<B: Blob + Send, L: Leaf + Send> Hand<B, L> {
 
     /// Claims one more card and reads it, if one waits.
     fn claim_more<G: Gate, H: Wait>(&mut self, rt: &H, book: &Book<B, L>, gate: &G) -> bool
-        requires room { self.old.cards.first ≡ None }
+        requires room { HasRoom self.old.cards }
         requires ahead { items self.old.next ≡ [] }
         requires hand { (w : Shift B L) × IsInHand (sight B.told B.seen L.seen) book.now w self.old }
         ensures next { self.new.next ≡ self.old.next }
@@ -136,7 +136,8 @@ impl<B: Blob + Send, L: Leaf + Send> Hand<B, L> {
 
     /// Claims one more card to read it later, if one waits.
     fn claim_later<G: Gate, H: Wait>(&mut self, rt: &H, book: &Book<B, L>, gate: &G) -> bool
-        requires room { self.old.next.first ≡ None }
+        requires room { HasRoom self.old.next }
+        requires few { length self.old.cards.slots.items ≤ 32 }
         requires hand { (w : Shift B L) × IsInHand (sight B.told B.seen L.seen) book.now w self.old }
         ensures { (w : Shift B L) → IsInHand (sight B.told B.seen L.seen) book.now w self.old
             → IsInHand (sight B.told B.seen L.seen) book.now w self.new }
@@ -148,13 +149,39 @@ impl<B: Blob + Send, L: Leaf + Send> Hand<B, L> {
         true
     }
 
-    /// Claims up to four cards and reads them, or none exactly where none waits.
+    /// Claims a card, writes and closes it at once, if one waits. So it goes where memory for more cards ran out.
+    fn write_one<G: Gate, H: Wait>(
+        &mut self,
+        rt: &H,
+        alloc: Global,
+        book: &Book<B, L>,
+        gate: &G,
+    ) -> bool
+        requires none { items self.old.cards ≡ [] }
+        requires ahead { items self.old.next ≡ [] }
+        requires hand { (w : Shift B L) × IsInHand (sight B.told B.seen L.seen) book.now w self.old }
+        ensures cards { self.new.cards ≡ self.old.cards }
+        ensures next { self.new.next ≡ self.old.next }
+        ensures hand { (w : Shift B L) → IsInHand (sight B.told B.seen L.seen) book.now w self.old
+            → IsInHand (sight B.told B.seen L.seen) book.now w self.new }
+        ensures none { result ≡ false → (w : Shift B L)
+            → IsInHand (sight B.told B.seen L.seen) book.now w self.old → SawNone book.now w self.new.pass }
+    {
+        let Some(held) = claim_next(rt, book, gate, &mut self.pass, Reading::Now) else {
+            return false;
+        };
+        let written = write_held(alloc, held);
+        close_written(rt, book, gate, &mut self.pass, written);
+        true
+    }
+
+    /// Claims up to 32 cards and reads them, or none exactly where none waits.
     fn gather<G: Gate, H: Wait>(
         &mut self,
         rt: &H,
+        gathering: Gathering,
         book: &Book<B, L>,
         gate: &G,
-        below: usize,
     ) -> bool
         requires none { items self.old.cards ≡ [] }
         requires ahead { items self.old.next ≡ [] }
@@ -165,20 +192,29 @@ impl<B: Blob + Send, L: Leaf + Send> Hand<B, L> {
         ensures none { result ≡ false → (items self.new.cards ≡ []) × ((w : Shift B L)
             → IsInHand (sight B.told B.seen L.seen) book.now w self.old → SawNone book.now w self.new.pass) }
     {
+        if !self.cards.has_room() {
+            return self.write_one(rt, gathering.alloc, book, gate);
+        }
         if !self.claim_more(rt, book, gate) {
             return false;
         }
-        'more: for _ in 0..3 {
-            if !self.wants_more(below) || !self.claim_more(rt, book, gate) {
+        'more: for _ in 1..ROOM {
+            if !self.wants_more(gathering.below) || !self.claim_more(rt, book, gate) {
                 break;
             }
         }
         true
     }
 
-    /// Has cards to write: those that were read ahead, or else up to four that wait. There is none exactly where none
+    /// Has cards to write: those that were read ahead, or else up to 32 that wait. There is none exactly where none
     /// waits.
-    fn fill<G: Gate, H: Wait>(&mut self, rt: &H, book: &Book<B, L>, gate: &G, below: usize) -> bool
+    fn fill<G: Gate, H: Wait>(
+        &mut self,
+        rt: &H,
+        gathering: Gathering,
+        book: &Book<B, L>,
+        gate: &G,
+    ) -> bool
         requires ahead { items self.old.next ≡ [] }
         requires hand { (w : Shift B L) × IsInHand (sight B.told B.seen L.seen) book.now w self.old }
         ensures next { self.new.next ≡ self.old.next }
@@ -187,19 +223,19 @@ impl<B: Blob + Send, L: Leaf + Send> Hand<B, L> {
         ensures none { result ≡ false → (items self.new.cards ≡ []) × ((w : Shift B L)
             → IsInHand (sight B.told B.seen L.seen) book.now w self.old → SawNone book.now w self.new.pass) }
     {
-        !self.cards.is_empty() || self.gather(rt, book, gate, below)
+        !self.cards.is_empty() || self.gather(rt, gathering, book, gate)
     }
 
-    /// Claims up to four cards more where there is much to hash, to read them meanwhile.
+    /// Claims as many cards more where there is much to hash, to read them meanwhile.
     fn claim_ahead<G: Gate, H: Wait>(&mut self, rt: &H, book: &Book<B, L>, gate: &G, below: usize)
         requires { (w : Shift B L) × IsInHand (sight B.told B.seen L.seen) book.now w self.old }
         ensures { (w : Shift B L) → IsInHand (sight B.told B.seen L.seen) book.now w self.old
             → IsInHand (sight B.told B.seen L.seen) book.now w self.new }
     {
-        if !is_worth_ahead(&self.cards) {
+        if !is_worth_ahead(self.cards.slots.as_slice()) {
             return;
         }
-        'ahead: for _ in 0..4 {
+        'ahead: for _ in 0..ROOM {
             if !self.wants_ahead(below) || !self.claim_later(rt, book, gate) {
                 break;
             }
@@ -207,14 +243,18 @@ impl<B: Blob + Send, L: Leaf + Send> Hand<B, L> {
     }
 
     /// Finds the SHA-1 of what was read, and reads what was claimed ahead.
-    fn find<H: Threads>(&mut self, rt: &H)
+    fn find<H: Threads>(&mut self, rt: &H, alloc: Global)
         ensures pass { self.new.pass ≡ self.old.pass }
-        ensures cards { AreSame (sight B.told B.seen L.seen) (items self.old.cards) (items self.new.cards) }
-        ensures next { AreSame (sight B.told B.seen L.seen) (items self.old.next) (items self.new.next) }
+        ensures cards { AreSameSlots (sight B.told B.seen L.seen) self.old.cards.slots.items self.new.cards.slots.items }
+        ensures next { AreSameSlots (sight B.told B.seen L.seen) self.old.next.slots.items self.new.next.slots.items }
     {
-        let cards = replace(&mut self.cards, Four::new());
-        let next = replace(&mut self.next, Four::new());
-        let (cards, next) = read_and_find(rt, cards, next);
+        if self.next.is_empty() {
+            find_sha1(self.cards.slots.as_mut_slice());
+            return;
+        }
+        let cards = replace(&mut self.cards, Few::without_room(alloc));
+        let next = replace(&mut self.next, Few::without_room(alloc));
+        let (cards, next) = find_and_read(rt, cards, next);
         drop(replace(&mut self.cards, cards));
         drop(replace(&mut self.next, next));
     }
@@ -226,10 +266,13 @@ impl<B: Blob + Send, L: Leaf + Send> Hand<B, L> {
             → IsInHand (sight B.told B.seen L.seen) book.now w self.new }
         ensures none { items self.new.cards ≡ [] }
     {
-        while let Some(held) = self.cards.pop() {
-            let written = write_held(alloc, held);
-            close_written(rt, book, gate, &mut self.pass, written);
+        'close: for place in 0..self.cards.len() {
+            if let Some(held) = self.cards.take(place) {
+                let written = write_held(alloc, held);
+                close_written(rt, book, gate, &mut self.pass, written);
+            }
         }
+        self.cards.clear();
     }
 
     /// The pass. Cards that are still in hand are let go.
@@ -249,10 +292,12 @@ impl<B: Blob + Send, L: Leaf + Send> Hand<B, L> {
         ensures cards { items self.new.cards ≡ items self.old.next }
         ensures pass { self.new.pass ≡ self.old.pass }
     {
-        swap(&mut self.cards, &mut self.next);
+        if !self.next.is_empty() {
+            swap(&mut self.cards, &mut self.next);
+        }
     }
 
-    /// Has up to four cards written, or none exactly where none waits. Where there is much to hash, the next four are
+    /// Has up to 32 cards written, or none exactly where none waits. Where there is much to hash, the next ones are
     /// read meanwhile.
     pub fn take_turn<G: Gate, H: Threads + Wait>(
         &mut self,
@@ -269,11 +314,11 @@ impl<B: Blob + Send, L: Leaf + Send> Hand<B, L> {
         ensures idle { result ≡ false → (items self.new.cards ≡ []) × ((w : Shift B L)
             → IsInHand (sight B.told B.seen L.seen) book.now w self.old → SawNone book.now w self.new.pass) }
     {
-        if !self.fill(rt, book, gate, gathering.below) {
+        if !self.fill(rt, gathering, book, gate) {
             return false;
         }
         self.claim_ahead(rt, book, gate, gathering.below);
-        self.find(rt);
+        self.find(rt, gathering.alloc);
         self.close_all(rt, gathering.alloc, book, gate);
         self.go_on();
         true

@@ -57,7 +57,8 @@ pub(crate) fn read_held<B: Blob, L: Leaf>(held: &mut Held<B, L>)
 /// Keeps the SHA-1 of what was taken, if there is any.
 pub(crate) fn keep_known<B: Blob, L: Leaf>(held: &mut Held<B, L>, found: [u8; 20])
     requires { found ≡ sha1 (stored_in_held held.old) }
-    ensures { SameHeld (sight B.told B.seen L.seen) held.old held.new }
+    ensures same { SameHeld (sight B.told B.seen L.seen) held.old held.new }
+    ensures stored { stored_in_held held.new ≡ stored_in_held held.old }
 {
     match &mut held.taken {
         Some(taken) => taken.keep_sha1(found),

@@ -2,7 +2,7 @@
 #![tactic(auto)]
 
 mod ahead;
-mod four;
+mod few;
 mod hand;
 mod held;
 pub mod laws;

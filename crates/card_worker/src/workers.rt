@@ -5,15 +5,15 @@ ghost use Rattle.checkout_book.specs.declared.plan.BookPlan.{BookPlan};
 ghost use Rattle.checkout_book.specs.Sights.{sight};
 ghost use Rattle.card_worker.specs.Working.{IsReady, Idled};
 
-use crate::four::Four;
+use crate::few::Few;
 use crate::hand::{Gathering, Hand};
 use checkout_book::book::{Book, Pass};
 use edge_kit::{Blob, Gate, Leaf};
 use std::sync::Wait;
 use std::thread::Threads;
 
-/// Claims cards, writes each and closes it, again and again until no card waits. It claims up to four and reads them.
-/// While it finds their SHA-1 at once, up to four more are read, if there is much to hash. Then it writes and closes
+/// Claims cards, writes each and closes it, again and again until no card waits. It claims up to 32 and reads them.
+/// While it finds their SHA-1 side by side, as many more are read, if there is much to hash. Then it writes and closes
 /// the first ones. The gate is called outside the lock, after a card was claimed and after it was closed.
 pub fn work<B: Blob + Send, L: Leaf + Send, G: Gate, H: Threads + Wait>(
     rt: &H,
@@ -30,8 +30,8 @@ pub fn work<B: Blob + Send, L: Leaf + Send, G: Gate, H: Threads + Wait>(
 {
     let mut hand = Hand {
         pass,
-        cards: Four::new(),
-        next: Four::new(),
+        cards: Few::with_room(gathering.alloc),
+        next: Few::with_room(gathering.alloc),
     };
     'turns: for _ in rt.forever() {
         if !hand.take_turn(rt, gathering, book, gate) {

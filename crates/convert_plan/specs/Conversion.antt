@@ -4,8 +4,8 @@ use Rattle.attr_line.specs.declared.state.AttrState.{AttrState}
 use Rattle.attr_line.specs.declared.state.AttrState.TheVariants.{Set}
 use Rattle.eol_convert.specs.declared.setting.AutoCrlf.{AutoCrlf}
 use Rattle.eol_convert.specs.declared.setting.EolSetting.{EolSetting}
-use Rattle.eol_convert.specs.declared.setting.LineEnds.{LineEnds}
-use Rattle.eol_convert.specs.Action.{line_ends_of}
+use Rattle.eol_convert.specs.declared.action.Action.{Action}
+use Rattle.eol_convert.specs.Action.{action_of}
 use Rattle.tree_encoding.specs.declared.encoding.Encoding.{Encoding}
 use Rattle.tree_encoding.specs.declared.encoding.UnknownEncoding.{UnknownEncoding}
 use Rattle.tree_encoding.specs.Named.{encoding_of}
@@ -16,13 +16,13 @@ is_set Set = true
 is_set state = false
 
 -- with the encoding that is named, if it is known
-abbrev pub with_encoding : Bool → LineEnds → Result (Option Encoding) UnknownEncoding
+abbrev pub with_encoding : Bool → Action → Result (Option Encoding) UnknownEncoding
     → Result Conversion UnknownEncoding
-with_encoding ident ends (Ok encoding) = Ok (record { ident = ident; ends = ends; encoding = encoding })
-with_encoding ident ends (Err e) = Err e
+with_encoding ident action (Ok encoding) = Ok (record { ident = ident; action = action; encoding = encoding })
+with_encoding ident action (Err e) = Err e
 
 -- by the states of `text`, `crlf`, `eol`, `ident` and `working-tree-encoding`
 abbrev pub conversion_of : List AttrState → AutoCrlf → EolSetting → Result Conversion UnknownEncoding
 conversion_of (text ∷ crlf ∷ eol ∷ ident ∷ encoding ∷ []) auto setting =
-    with_encoding (is_set ident) (line_ends_of text crlf eol auto setting) (encoding_of encoding)
+    with_encoding (is_set ident) (action_of text crlf eol auto setting) (encoding_of encoding)
 conversion_of states auto setting = Err (record {})

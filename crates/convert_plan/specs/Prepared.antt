@@ -1,6 +1,7 @@
 -- A content as it stands in the worktree.
 use Rattle.std.specs.Prelude.{ℕ, Bool, true, false, List, Option, Some, None}
 use Rattle.ident_convert.specs.Ident.{keyword_text, expanded}
+use Rattle.eol_convert.specs.Action.{ends_of}
 use Rattle.eol_convert.specs.Content.{to_tree_ends}
 use Rattle.tree_encoding.specs.declared.encoding.Encoding.{Encoding}
 use Rattle.tree_encoding.specs.declared.prepared.Prepared.{Prepared}
@@ -20,4 +21,5 @@ in_encoding (Some encoding) content = encoded content encoding
 -- first the keyword, then line ends, then the encoding
 abbrev pub prepared : Conversion → List ℕ → List ℕ → Prepared
 prepared conversion name content =
-    in_encoding conversion.encoding (to_tree_ends (with_ident conversion.ident name content) conversion.ends)
+    in_encoding conversion.encoding
+    (to_tree_ends (with_ident conversion.ident name content) (ends_of conversion.action))

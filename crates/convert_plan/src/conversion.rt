@@ -2,15 +2,16 @@ ghost use Rattle.std.specs.Prelude.{◌≡◌, length};
 ghost use Rattle.convert_plan.specs.Conversion.{is_set, conversion_of};
 
 use attr_line::AttrState;
-use eol_convert::{AutoCrlf, EolSetting, LineEnds, line_ends_of};
+use eol_convert::{Action, AutoCrlf, EolSetting, action_of};
 use tree_encoding::{Encoding, UnknownEncoding, encoding_of};
 
-/// What is done to a path's content.
+/// What is done to a path's content, on its way to the worktree and on its way back.
 #[derive(Clone, Copy)]
 pub struct Conversion {
-    /// Whether the keyword `$Id$` is expanded.
+    /// Whether the keyword `$Id$` is expanded, and undone on the way back.
     pub ident: bool,
-    pub ends: LineEnds,
+    /// What is done with the line ends.
+    pub action: Action,
     /// The encoding, or `None` for UTF-8.
     pub encoding: Option<Encoding>,
 }
@@ -39,7 +40,7 @@ pub fn conversion_of(
     match encoding_of(encoding) {
         Ok(encoding) => Ok(Conversion {
             ident: is_set(ident),
-            ends: line_ends_of(text, crlf, eol, auto, setting),
+            action: action_of(text, crlf, eol, auto, setting),
             encoding,
         }),
         Err(UnknownEncoding) => Err(UnknownEncoding),

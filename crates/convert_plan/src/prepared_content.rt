@@ -77,6 +77,6 @@ pub fn prepare(
     ensures { IfOk result (λ p. p ≡ prepared conversion.now name.now blob.items) }
 {
     let named = with_ident(alloc, conversion.ident, name, blob)?;
-    let ended = with_ends(alloc, conversion.ends, named)?;
+    let ended = with_ends(alloc, conversion.action.ends(), named)?;
     in_encoding(alloc, conversion.encoding, ended)
 }

@@ -82,7 +82,7 @@ abbrev pub action_of : AttrState → AttrState → AttrState → AutoCrlf → Eo
 action_of text crlf eol auto setting =
     settled auto setting (with_named (named_ending eol) (first_said (said text) (said crlf)))
 
--- line ends that should be LF stay as they are
+-- the line ends of a checkout: those that should be LF stay as they are
 abbrev pub ends_of : Action → LineEnds
 ends_of TextCrlf = ends.ToCrlf
 ends_of AutoWithCrlf = ends.AutoCrlf

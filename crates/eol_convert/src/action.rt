@@ -160,8 +160,8 @@ pub fn action_of(
 }
 
 impl Action {
-    /// What a checkout does: line ends that should be LF stay as they are.
-    fn ends(self) -> LineEnds
+    /// The line ends of a checkout: those that should be LF stay as they are.
+    pub fn ends(self) -> LineEnds
         ensures { result ≡ ends_of self }
     {
         match self {

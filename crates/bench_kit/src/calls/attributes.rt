@@ -3,7 +3,7 @@ use attr_line::AttrState;
 use bench_books::marks::{begin, end};
 use byte_path::Bytes;
 use convert_plan::{Conversion, conversion_of};
-use eol_convert::{AutoCrlf, EolSetting, LineEnds, line_ends_of};
+use eol_convert::{Action, AutoCrlf, EolSetting, LineEnds, line_ends_of};
 use std::alloc::{AllocError, Global};
 use std::io;
 use std::io::Print;
@@ -16,7 +16,7 @@ fn value(alloc: Global, text: &[u8]) -> Result<AttrState, AllocError> {
 /// Whether these attributes ask for `$Id$`, automatic line ends and UTF-16LE with a mark.
 fn is_whole(conversion: Conversion) -> bool {
     conversion.ident
-        && matches!(conversion.ends, LineEnds::AutoCrlf)
+        && matches!(conversion.action, Action::AutoCrlf)
         && matches!(conversion.encoding, Some(Encoding::Utf16LeBom))
 }
 

@@ -2,7 +2,7 @@ use Rattle.std.proofs.Common.{◌≡◌, ℕ, []}
 use Rattle.turn_lock.specs.Seat.{number_of}
 use Rattle.checkout_book.specs.declared.plan.BookPlan.{BookPlan}
 use Rattle.checkout_book.specs.Sights.{sight}
-use Rattle.card_worker.specs.Fours.{items}
+use Rattle.card_worker.specs.Fews.{items}
 use Rattle.card_worker.specs.Holding.{IsInHand}
 use Rattle.card_worker.specs.Working.{IsReady}
 use Rattle.card_worker.proofs.workers.work.Given as goal

@@ -1,4 +1,4 @@
-use Rattle.std.proofs.Common.{sym, subst}
+use Rattle.std.proofs.Common.{◌∙◌, sym, subst}
 use Rattle.checkout_book.specs.Sights.{sight}
 use Rattle.card_worker.specs.declared.hand.Hand.{Hand}
 use Rattle.card_worker.specs.Holding.{IsInHand}
@@ -8,6 +8,12 @@ use Rattle.card_worker.proofs.hand.Hand.gather.Goals.{then-not-wants_more-via-th
 pub claim_more-requires-else-not-wants_more-clause-hand : goal.claim_more-requires-else-not-wants_more-clause-hand
 claim_more-requires-else-not-wants_more-clause-hand g c κs within =
     let r = c.requires.hand in (r.0, c.more.invariant.hand r.0 r.1)
+
+pub more-preserved : goal.more-preserved
+more-preserved g c = record {
+  hand = λ w i. c.claim_more-else-not-wants_more.ensures.hand w (c.more.invariant.hand w i);
+  next = c.claim_more-else-not-wants_more.ensures.next ∙ c.more.invariant.next;
+}
 
 pub returns-then-not-wants_more-clause-hand : goal.returns-then-not-wants_more-clause-hand
 returns-then-not-wants_more-clause-hand g c w i =
