@@ -12,7 +12,8 @@ use Rattle.git_index.specs.declared.entry.Entry.{Entry}
 use Rattle.git_index.specs.Spelling.{plain_text}
 use Rattle.clean_line.specs.CleanTalks.{TurnsAreTalks}
 use Rattle.clean_drivers.specs.Drivers.{DriversSeen}
-use Rattle.checkout_sources.specs.declared.attributed.Attributed.{Attributed}
+use Rattle.attr_stack.specs.declared.files.AttrFiles.{AttrFiles}
+use Rattle.checkout_plan.specs.AttributeFiles.{attribute_files}
 use Rattle.checkout_sources.specs.declared.stop.Stop.{Stop}
 use Rattle.checkout_sources.specs.declared.stop.Stop.TheVariants as stop
 use Rattle.checkout_sources.specs.Causes.{IsReadCause, IsCutShort}
@@ -107,9 +108,9 @@ module _ (told : AllTold) (r : PathsRead) (old mid new : RepoSeen) (files files'
 
   by_path : (kept : KeepSeen) (fates : Vec Fate) → Leaves kept (Ok fates) → entries_in_turn r.index fates.items ≡ new_entries r.paths.items fates.items r.index
   by_path kept fates leaves =
-      let a : Attributed = read.has.attributed in
-      in_turn a.files r.drivers a.settings r.index r.paths.items fates.items read.stand.each
-      (subst (λ (es : List Entry). r.paths.items ≡ checkin_paths a.files r.drivers a.settings es) (sym read.has.entries) read.has.paths) read.apart
+      let files : AttrFiles = attribute_files read.has.has.outer read.has.planned.index read.has.has.made.contents in
+      in_turn files r.drivers read.has.has.settings r.index r.paths.items fates.items read.stand.each
+      (subst (λ (es : List Entry). r.paths.items ≡ checkin_paths files r.drivers read.has.has.settings es) (sym read.has.entries) read.has.paths) read.apart
       (checked_length told.repo.object told.files by r.paths.items mid new first leaves.last keep kept fates.items leaves.checks)
 
   abbrev seen_so : (kept : KeepSeen) (fates : Vec Fate) (leaves : Leaves kept (Ok fates)) → ArePathsChecked told.repo.object told.files by r.paths.items (after_reading r.index old) new first leaves.last keep kept fates.items

@@ -1,14 +1,12 @@
 -- A path whose file is as a checkout made it comes back.
-use Rattle.std.proofs.Common.{◌≡◌, ℕ, suc, ◌≤◌, ◌<◌, Bool, true, false, List, [], ◌∷◌, length, codes, Option, Some, None, Result, Ok, Err, refl, sym, ap, subst, inl, inr, ◌∙◌, arith}
+use Rattle.std.proofs.Common.{◌≡◌, ℕ, ◌≤◌, ◌<◌, Bool, true, false, List, length, codes, Option, Some, None, Result, Ok, Err, refl, sym, ap, subst, inl, inr, ◌∙◌, arith}
 use Rattle.std.specs.Prelude.{◌||◌, ◌==◌, not, nat_lt, if◌then◌else◌}
-use Rattle.std.specs.Str.{bytes_eq, is_utf8}
+use Rattle.std.specs.Str.{is_utf8}
 use Rattle.edge_kit.specs.Told.{Told, Raw}
 use Rattle.sha1.specs.Sha1.{sha1}
 use Rattle.git_index.specs.declared.entry.Entry.{Entry}
 use Rattle.git_index.specs.declared.entry.Mode.{Mode}
 use Rattle.git_index.specs.declared.entry.Mode.TheVariants as mode
-use Rattle.attr_line.specs.declared.state.AttrState.{AttrState}
-use Rattle.attr_line.specs.declared.state.AttrState.TheVariants as state
 use Rattle.attr_stack.specs.declared.files.AttrFiles.{AttrFiles}
 use Rattle.settings_view.specs.declared.view.Driver.{Driver}
 use Rattle.settings_view.specs.declared.view.Settings.{Settings}
@@ -19,7 +17,7 @@ use Rattle.tree_encoding.specs.declared.encoding.UnknownEncoding.{UnknownEncodin
 use Rattle.convert_plan.specs.declared.conversion.Conversion.{Conversion}
 use Rattle.convert_plan.specs.Conversion.{is_set, with_encoding}
 use Rattle.tree_encoding.specs.Named.{encoding_of}
-use Rattle.eol_convert.specs.Action.{action_of, ends_of}
+use Rattle.eol_convert.specs.Action.{action_of}
 use Rattle.convert_plan.specs.Prepared.{prepared}
 use Rattle.object_dir.specs.Object.{object_of, stored_content, max_stored, Gives, IsObject}
 use Rattle.object_dir.specs.Spelling.{spelled_blob}
@@ -29,11 +27,10 @@ use Rattle.back_convert.specs.Ends.{has_crlf}
 use Rattle.back_convert.specs.Laws.{stored, back_stored, back_encoded_if}
 use Rattle.checkout_core.specs.declared.path.Start.{Start}
 use Rattle.checkout_core.specs.declared.path.Start.TheVariants as start
-use Rattle.checkout_core.specs.declared.verdict.Verdict.{Verdict}
 use Rattle.checkout_core.specs.declared.verdict.Verdict.TheVariants as verdict
 use Rattle.checkout_core.specs.declared.verdict.SkipCause.TheVariants as skip
 use Rattle.checkout_plan.specs.declared.path_plan.PathPlan.{PathPlan}
-use Rattle.checkout_plan.specs.Paths.{closed, start_by, start_at, start_named, filter_start, converted, file_path, text_path, link_path, path_of_mode, asked_path}
+use Rattle.checkout_plan.specs.Paths.{closed, filter_start, converted, file_path, text_path, link_path, path_of_mode, asked_path}
 use Rattle.clean_line.specs.declared.cause.CleanCause.{CleanCause}
 use Rattle.checkin_paths.specs.CleanedFiles.{Asked, cleaned_by, IsCleaned}
 use Rattle.checkin_paths.specs.declared.path.PathDriver.{PathDriver}
@@ -45,11 +42,9 @@ use Rattle.checkin_paths.specs.declared.fate.Fate.TheVariants.{Same, Changed, Go
 use Rattle.checkin_paths.specs.declared.fate.CheckinCause.TheVariants as cause
 use Rattle.checkin_paths.specs.Fates.{max_file, IsWrong, ReadsOld, HasOld, HasFile, IsClean, IsBlobOf, name_of, HasStoredFate, HasFate}
 use Rattle.checkin_paths.specs.Paths.{is_kept, state_at, encoded_way, file_way, as_it_is, way_of_mode, way_of}
-use Rattle.checkin_paths.specs.Asked.{is_gitlink}
-use Rattle.checkin_paths.proofs.KeptPaths.{kept_is_left_out}
+use Rattle.checkin_paths.proofs.KeptPaths.{is_gitlink, kept_is_left_out}
 use Rattle.checkin_paths.specs.Outcomes.{Outcome, HasStoredCounts, HasCounts}
 use Rattle.checkin_paths.specs.BackAgain.{tree_file, conversion_of, IsFileOf, ComesBack}
-use Rattle.checkin_paths.proofs.Drivers.{AreAlike, are_alike}
 
 -- what is told of an object has one reading
 one_gift : (raw name content other : List ℕ) → object_of raw name ≡ Ok content → Gives (Raw raw) name (Ok other) → other ≡ content
@@ -151,64 +146,21 @@ module _ (name : List ℕ) (storing : Storing) (raw content ready bytes made : L
   one_fate o other (Failed (cause.Filter why)) (has, clean) counts = absurd (no_refusal why has clean)
   one_fate o other (Failed cause.EncodingForm) (clean, none) counts = absurd (no_form (ap (back_encoded_if storing.encoding) (sym (cleaned_is clean)) ∙ none))
 
--- a driver that closes its paths in the plan of a checkout is required
-by_command : (place : ℕ) (process : Option (List ℕ)) (required : Bool) (v : Verdict) → start_by place process required ≡ start.Done v → required ≡ true
-by_command place (Some process) required v is = cc
-by_command place None true v is = refl
-by_command place None false v is = cc
+-- what a checkout does with a file that is stored so
+file_by : (e : Entry) (begin back : Start) (ident : Bool) (action : Action) (r : Result (Option Encoding) UnknownEncoding) (storing : Storing)
+    → encoded_way r back (λ encoding. record { driver = None; ident = ident; action = action; encoding = encoding }) ≡ Stored storing → (converted e begin (with_encoding ident action r)).conversion ≡ conversion_of storing
+file_by e begin back ident action (Err u) storing is = cc
+file_by e begin (start.Done v) ident action (Ok encoding) storing is = cc
+file_by e begin start.Pool ident action (Ok encoding) storing is = let same : record { driver = None; ident = ident; action = action; encoding = encoding } ≡ storing = cc in ap conversion_of same
+file_by e begin (start.Desk place required) ident action (Ok encoding) storing is =
+    let same : record { driver = Some (record { place = place; required = required }); ident = ident; action = action; encoding = encoding } ≡ storing = cc in ap conversion_of same
 
--- one that leaves them is not
-by_none : (place : ℕ) (process : Option (List ℕ)) (required : Bool) → start_by place process required ≡ start.Pool → required ≡ false
-by_none place (Some process) required is = cc
-by_none place None true is = cc
-by_none place None false is = refl
-
--- a path that the plan closes for its driver isn't one that the same driver leaves on the way back
-by_name : (place : ℕ) (ds es : List Driver) (name : List ℕ) (v : Verdict) → AreAlike ds es → start_named place ds name ≡ start.Done v → start_named place es name ≡ start.Pool → ⊥
-by_name place [] [] name v alike is idle = cc
-by_name place [] (e ∷ es) name v alike is idle = absurd alike
-by_name place (d ∷ ds) [] name v alike is idle = absurd alike
-by_name place (d ∷ ds) (e ∷ es) name v alike is idle = at (bytes_eq d.name name) is (subst (λ (n : List ℕ). (if bytes_eq n name then start_at place e else start_named (suc place) es name) ≡ start.Pool) (sym alike.0) idle) (λ closed left. by_name (suc place) ds es name v alike.2 closed left)
-  where
-    here : d.required ≡ true → e.required ≡ false → ⊥
-    here needed free = let never : true ≡ false = sym needed ∙ alike.1 ∙ free in cc
-
-    at : (t : Bool) → (if t then start_at place d else start_named (suc place) ds name) ≡ start.Done v → (if t then start_at place e else start_named (suc place) es name) ≡ start.Pool
-        → (start_named (suc place) ds name ≡ start.Done v → start_named (suc place) es name ≡ start.Pool → ⊥) → ⊥
-    at true is idle rest = here (by_command place d.process d.required v is) (by_none place e.process e.required idle)
-    at false is idle rest = rest is idle
-
-not_closed : (ds es : List Driver) (s : AttrState) (v : Verdict) → AreAlike ds es → filter_start ds s ≡ start.Done v → filter_start es s ≡ start.Pool → ⊥
-not_closed ds es (state.Value name) v alike is idle = by_name 0 ds es name v alike is idle
-not_closed ds es state.Set v alike is idle = cc
-not_closed ds es state.Unset v alike is idle = cc
-not_closed ds es state.Unspecified v alike is idle = cc
-
-idle_by : (e : Entry) (begin : Start) (ident : Bool) (action : Action) (encoding : Option Encoding) (storing : Storing) → ((v : Verdict) → begin ≡ start.Done v → ⊥) → Stored (record { driver = None; ident = ident; action = action; encoding = encoding }) ≡ Stored storing
-    → (converted e begin (Ok (record { ident = ident; ends = ends_of action; encoding = encoding }))).conversion ≡ conversion_of storing
-idle_by e (start.Done v) ident action encoding storing never is = absurd (never v refl)
-idle_by e start.Pool ident action encoding storing never is = let same : record { driver = None; ident = ident; action = action; encoding = encoding } ≡ storing = cc in ap conversion_of same
-idle_by e (start.Desk place required) ident action encoding storing never is = let same : record { driver = None; ident = ident; action = action; encoding = encoding } ≡ storing = cc in ap conversion_of same
-
-no_driver : (d : PathDriver) → Some d ≡ None → ⊥
-no_driver d is = cc
-
-file_by : (e : Entry) (begin back : Start) (ident : Bool) (action : Action) (r : Result (Option Encoding) UnknownEncoding) (storing : Storing) → ((v : Verdict) → begin ≡ start.Done v → back ≡ start.Pool → ⊥) → storing.driver ≡ None
-    → encoded_way r back (λ encoding. record { driver = None; ident = ident; action = action; encoding = encoding }) ≡ Stored storing → (converted e begin (with_encoding ident (ends_of action) r)).conversion ≡ conversion_of storing
-file_by e begin back ident action (Err u) storing never none is = cc
-file_by e begin (start.Done v) ident action (Ok encoding) storing never none is = cc
-file_by e begin start.Pool ident action (Ok encoding) storing never none is = idle_by e begin ident action encoding storing (λ v done. never v done refl) is
-file_by e begin (start.Desk place required) ident action (Ok encoding) storing never none is =
-    let same : record { driver = Some (record { place = place; required = required }); ident = ident; action = action; encoding = encoding } ≡ storing = cc in
-    absurd (no_driver (record { place = place; required = required }) (ap (λ (x : Storing). x.driver) same ∙ none))
-
-module _ (files : AttrFiles) (drivers : List Driver) (settings : Settings) (e : Entry) (storing : Storing) (alike : AreAlike settings.drivers drivers) (none : storing.driver ≡ None) where
+module _ (files : AttrFiles) (drivers : List Driver) (settings : Settings) (e : Entry) (storing : Storing) where
   of_file : file_way files drivers settings e ≡ Stored storing → (file_path files settings e).conversion ≡ conversion_of storing
   of_file is =
       file_by e (filter_start settings.drivers (state_at files e (codes "filter"))) (filter_start drivers (state_at files e (codes "filter"))) (is_set (state_at files e (codes "ident")))
       (action_of (state_at files e (codes "text")) (state_at files e (codes "crlf")) (state_at files e (codes "eol")) settings.autocrlf settings.eol)
-      (encoding_of (state_at files e (codes "working-tree-encoding"))) storing
-      (λ v done idle. not_closed settings.drivers drivers (state_at files e (codes "filter")) v alike done idle) none is
+      (encoding_of (state_at files e (codes "working-tree-encoding"))) storing is
 
   of_text : is_utf8 e.path ≡ true → file_way files drivers settings e ≡ Stored storing → (text_path files settings e).conversion ≡ conversion_of storing
   of_text text is = rw text (of_file is)
@@ -253,11 +205,8 @@ HasOneSpelling raw name = (content : List ℕ) → object_of raw name ≡ Ok con
 pub comes_back : (storing : Storing) (raw name content : List ℕ) → stored storing.ident storing.action storing.encoding (has_crlf content) (prepared (conversion_of storing) name content).bytes ≡ Some content → HasOneSpelling raw name
     → ComesBack storing raw name content
 comes_back storing raw name content back spelled object told files config settings drivers e o named one is out =
-    let found = are_alike config settings one.says in
-    let same_drivers : found.0 ≡ drivers = let same : Ok found.0 ≡ Ok drivers = sym found.1 ∙ one.cleaning in cc in
-    let alike : AreAlike settings.drivers drivers = subst (AreAlike settings.drivers) same_drivers found.2 in
     let made : storing.driver ≡ None → (tree_file files settings e content).bytes ≡ (prepared (conversion_of storing) e.name content).bytes =
-    λ none. ap (λ (c : Conversion). (prepared c e.name content).bytes) (of_path files drivers settings e storing alike none is.way) in
+    λ none. ap (λ (c : Conversion). (prepared c e.name content).bytes) (of_path files drivers settings e storing is.way) in
     let back_e : stored storing.ident storing.action storing.encoding (has_crlf content) (prepared (conversion_of storing) e.name content).bytes ≡ Some content =
     ap (λ (n : List ℕ). stored storing.ident storing.action storing.encoding (has_crlf content) (prepared (conversion_of storing) n content).bytes) named ∙ back in
     let spelling : (raw ≡ spelled_blob content) × (sha1 raw ≡ name) = spelled content (ap (object_of raw) (sym named) ∙ is.gives) in

@@ -1,6 +1,6 @@
 -- The paths that the plan of a checkout closes since it skips them, or since their names aren't text.
-use Rattle.std.proofs.Common.{◌≡◌, ℕ, suc, Bool, true, false, List, [], ◌∷◌, map, refl, sym, ap, inl, inr, ◌⊎◌, ◌∙◌, Option, Some, None, Result, Ok, Err}
-use Rattle.std.specs.Prelude.{◌||◌, ◌==◌, not, IfOk, if◌then◌else◌}
+use Rattle.std.proofs.Common.{◌≡◌, ℕ, suc, Bool, true, false, List, [], ◌∷◌, map, codes, refl, Option, Some, None, Result, Ok, Err}
+use Rattle.std.specs.Prelude.{◌||◌, ◌==◌, not, if◌then◌else◌}
 use Rattle.std.specs.Str.{bytes_eq, is_utf8}
 use Rattle.git_index.specs.declared.entry.Entry.{Entry}
 use Rattle.git_index.specs.declared.entry.Mode.{Mode}
@@ -8,22 +8,30 @@ use Rattle.git_index.specs.declared.entry.Mode.TheVariants as mode
 use Rattle.attr_line.specs.declared.state.AttrState.{AttrState}
 use Rattle.attr_line.specs.declared.state.AttrState.TheVariants as state
 use Rattle.attr_stack.specs.declared.files.AttrFiles.{AttrFiles}
+use Rattle.attr_stack.specs.Decided.{state_of}
 use Rattle.settings_view.specs.declared.view.Driver.{Driver}
 use Rattle.settings_view.specs.declared.view.Settings.{Settings}
 use Rattle.tree_encoding.specs.declared.encoding.UnknownEncoding.{UnknownEncoding}
 use Rattle.convert_plan.specs.declared.conversion.Conversion.{Conversion}
+use Rattle.convert_plan.specs.Conversion.{conversion_of}
 use Rattle.checkout_core.specs.declared.verdict.Verdict.TheVariants as verdict
 use Rattle.checkout_core.specs.declared.verdict.FailCause.TheVariants as fail
 use Rattle.checkout_core.specs.declared.verdict.SkipCause.TheVariants as skip
 use Rattle.checkout_core.specs.declared.path.Start.{Start}
 use Rattle.checkout_core.specs.declared.path.Start.TheVariants as start
 use Rattle.checkout_plan.specs.declared.path_plan.PathPlan.{PathPlan}
-use Rattle.checkout_plan.specs.Paths.{no_conversion, path_with, closed, start_by, start_at, start_named, filter_start, converted, file_path, text_path, link_path, unless_left_out, path_of_mode}
-use Rattle.checkin_paths.specs.Paths.{is_kept_start, is_kept, way_of, way_of_mode}
-use Rattle.checkin_paths.specs.declared.path.Way.{Way}
-use Rattle.checkin_paths.specs.declared.path.Way.TheVariants.{Kept}
-use Rattle.attr_stack.specs.Decided.{state_of}
-use Rattle.checkin_paths.specs.Asked.{is_gitlink, is_left_out, asked_names, way_by_states}
+use Rattle.checkout_plan.specs.Paths.{conversion_names, no_conversion, path_with, closed, start_by, start_at, start_named, filter_start, converted, file_path, text_path, link_path, unless_left_out, path_of_mode}
+use Rattle.checkin_paths.specs.Paths.{is_kept_start, is_kept}
+
+abbrev pub is_gitlink : Mode → Bool
+is_gitlink mode.Gitlink = true
+is_gitlink mode.Plain = false
+is_gitlink mode.Executable = false
+is_gitlink mode.Link = false
+
+-- the entry's path is unmerged, a gitlink, left out, or no text
+abbrev pub is_left_out : Entry → Bool
+is_left_out e = not (e.stage == 0) || is_gitlink e.mode || e.sparse || e.intent || not (is_utf8 e.path)
 
 by_command : (place : ℕ) (process : Option (List ℕ)) (required : Bool) → is_kept_start (start_by place process required) ≡ false
 by_command place (Some process) required = refl
@@ -37,23 +45,21 @@ by_name place (d ∷ ds) name = elim (bytes_eq d.name name) as (λ t. is_kept_st
   | false ↦ by_name (suc place) ds name
 ]
 
-by_filter : (ds : List Driver) (s : AttrState) → is_kept_start (filter_start ds s) ≡ false
+pub by_filter : (ds : List Driver) (s : AttrState) → is_kept_start (filter_start ds s) ≡ false
 by_filter ds (state.Value name) = by_name 0 ds name
 by_filter ds state.Set = refl
 by_filter ds state.Unset = refl
 by_filter ds state.Unspecified = refl
 
 by_conversion : (e : Entry) (begin : Start) (c : Result Conversion UnknownEncoding) → is_kept_start begin ≡ false → is_kept_start (converted e begin c).start ≡ false
-by_conversion e (start.Done v) (Ok c) is = is
-by_conversion e start.Pool (Ok c) is = refl
-by_conversion e (start.Desk place required) (Ok c) is = refl
-by_conversion e (start.Done v) (Err u) is = refl
-by_conversion e start.Pool (Err u) is = refl
-by_conversion e (start.Desk place required) (Err u) is = refl
+by_conversion e begin (Ok c) is = is
+by_conversion e begin (Err u) is = refl
 
 of_text : (files : AttrFiles) (settings : Settings) (e : Entry) → is_kept_start (text_path files settings e).start ≡ not (is_utf8 e.path)
 of_text files settings e = elim (is_utf8 e.path) as (λ t. is_kept_start (if t then file_path files settings e else closed e (verdict.Failed fail.NameNotText)).start ≡ not t) [
-  | true ↦ by_conversion e _ _ (by_filter settings.drivers _)
+  | true ↦
+      by_conversion e (filter_start settings.drivers (state_of files e.path (codes "filter"))) (conversion_of (map (state_of files e.path) conversion_names) settings.autocrlf settings.eol)
+      (by_filter settings.drivers (state_of files e.path (codes "filter")))
   | false ↦ refl
 ]
 
@@ -83,33 +89,3 @@ kept_is_left_out files settings e = elim (e.stage == 0) as (λ t. is_kept_start 
   | true ↦ of_mode e.mode files settings e
   | false ↦ refl
 ]
-
--- what is done with an entry's path that is left out, and with any other
-pub left_out_way : (files : AttrFiles) (drivers : List Driver) (settings : Settings) (e : Entry) → is_left_out e ≡ true → way_of files drivers settings e ≡ Kept
-left_out_way files drivers settings e is = by (is_kept files settings e) (kept_is_left_out files settings e ∙ is)
-  where
-    by : (b : Bool) → b ≡ true → (if b then Kept else way_of_mode e.mode files drivers settings e) ≡ Kept
-    by true is = refl
-    by false is = absurd cc
-
-pub open_way : (files : AttrFiles) (drivers : List Driver) (settings : Settings) (e : Entry) → is_left_out e ≡ false → way_of files drivers settings e ≡ way_of_mode e.mode files drivers settings e
-open_way files drivers settings e is = by (is_kept files settings e) (kept_is_left_out files settings e ∙ is)
-  where
-    by : (b : Bool) → b ≡ false → (if b then Kept else way_of_mode e.mode files drivers settings e) ≡ way_of_mode e.mode files drivers settings e
-    by true is = absurd cc
-    by false is = refl
-
--- the same by a test of the entry and its mode
-pub open_as : (files : AttrFiles) (drivers : List Driver) (settings : Settings) (e : Entry) (m : Mode) (left : Bool) → left ≡ is_left_out e → left ≡ false → e.mode ≡ m → way_of_mode m files drivers settings e ≡ way_of files drivers settings e
-open_as files drivers settings e m left is stays of_m = sym (open_way files drivers settings e (sym is ∙ stays) ∙ ap (λ (n : Mode). way_of_mode n files drivers settings e) of_m)
-
--- a file whose states were looked up
-file_open : (files : AttrFiles) (drivers : List Driver) (settings : Settings) (e : Entry) (path : List ℕ) (left : Bool) → path ≡ e.path → left ≡ is_left_out e → left ≡ false → (e.mode ≡ mode.Plain) ⊎ (e.mode ≡ mode.Executable)
-    → way_by_states drivers settings (map (state_of files path) asked_names) ≡ way_of files drivers settings e
-file_open files drivers settings e path left same is stays (inl plain) = ap (λ (q : List ℕ). way_by_states drivers settings (map (state_of files q) asked_names)) same ∙ open_as files drivers settings e mode.Plain left is stays plain
-file_open files drivers settings e path left same is stays (inr executable) = ap (λ (q : List ℕ). way_by_states drivers settings (map (state_of files q) asked_names)) same ∙ open_as files drivers settings e mode.Executable left is stays executable
-
-pub file_opens : (E : Type 0) (files : AttrFiles) (drivers : List Driver) (settings : Settings) (e : Entry) (path : List ℕ) (left : Bool) (r : Result Way E) → path ≡ e.path → left ≡ is_left_out e → left ≡ false
-    → (e.mode ≡ mode.Plain) ⊎ (e.mode ≡ mode.Executable) → IfOk r (λ way. way ≡ way_by_states drivers settings (map (state_of files path) asked_names)) → IfOk r (λ way. way ≡ way_of files drivers settings e)
-file_opens E files drivers settings e path left (Ok way) same is stays file by = by ∙ file_open files drivers settings e path left same is stays file
-file_opens E files drivers settings e path left (Err error) same is stays file by = tt

@@ -1,4 +1,5 @@
-pub mod KeptPaths
+mod KeptPaths
+mod Planned
 mod Checked
 mod Drivers
 mod Found

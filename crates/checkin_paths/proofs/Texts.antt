@@ -2,7 +2,7 @@
 use Rattle.std.proofs.Common.{◌≡◌, ℕ, suc, ◌+◌, ◌^◌, ◌<◌, ◌≤◌, Bool, true, false, List, [], ◌∷◌, length, map, codes, Option, Some, None, Result, Ok, Err, refl, sym, subst, ◌∙◌, arith}
 use Rattle.std.specs.Prelude.{◌||◌, ◌==◌, not, nat_lt, if◌then◌else◌}
 use Rattle.std.specs.List.{AllByRecursion}
-use Rattle.std.specs.Str.{bytes_eq, is_utf8, IsUtf8}
+use Rattle.std.specs.Str.{bytes_eq, is_utf8}
 use Rattle.std.proofs.lemmas.Str.{IsUtf8-from_is_utf8}
 use Rattle.byte_path.specs.Path.{path_fault, first_fault, parts}
 use Rattle.byte_path.specs.declared.path.PathFault.{PathFault}
@@ -25,16 +25,8 @@ use Rattle.checkout_plan.specs.Paths.{start_by, start_at, start_named, filter_st
 use Rattle.checkin_paths.specs.declared.path.Storing.{Storing}
 use Rattle.checkin_paths.specs.declared.path.Way.TheVariants as way
 use Rattle.checkin_paths.specs.Paths.{is_kept, state_at, way_by, encoded_way, way_of_mode, checkin_path, checkin_paths}
-use Rattle.checkin_paths.specs.Asked.{is_gitlink}
 use Rattle.checkin_paths.specs.Looks.{IsAskableBy, IsOpenBy, IsOpen}
-use Rattle.checkin_paths.proofs.KeptPaths.{kept_is_left_out}
-
-false_at : (b : Bool) → (b ≡ true → ⊥) → false ≡ b
-false_at true never = absurd (never refl)
-false_at false never = refl
-
-pub no_text : (bytes : List ℕ) → ¬ (IsUtf8 bytes) → false ≡ is_utf8 bytes
-no_text bytes never = false_at (is_utf8 bytes) (λ is. never (IsUtf8-from_is_utf8 bytes is))
+use Rattle.checkin_paths.proofs.KeptPaths.{is_gitlink, kept_is_left_out}
 
 not_empty : (path : List ℕ) → path_fault path ≡ None → 1 ≤ length path
 unfolding path_fault

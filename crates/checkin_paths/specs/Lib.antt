@@ -10,7 +10,7 @@ pub mod Outcomes
 pub mod ReadPaths
 pub mod KeptPaths
 -- what its parts promise each other
-pub mod Asked
+pub mod PlannedWays
 pub mod Looks
 -- what comes back unchanged
 pub mod BackAgain

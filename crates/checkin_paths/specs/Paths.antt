@@ -18,12 +18,13 @@ use Rattle.checkout_core.specs.declared.path.Start.{Start}
 use Rattle.checkout_core.specs.declared.path.Start.TheVariants as start
 use Rattle.checkout_core.specs.declared.verdict.Verdict.TheVariants as verdict
 use Rattle.checkout_core.specs.declared.verdict.FailCause.TheVariants as fail
-use Rattle.checkout_sources.specs.declared.attributed.Attributed.{Attributed}
-use Rattle.checkout_sources.specs.Attributed.{HasAttributed}
+use Rattle.checkout_sources.specs.declared.planned_index.PlannedIndex.{PlannedIndex}
+use Rattle.checkout_sources.specs.PlannedIndex.{HasPlannedIndex}
 use Rattle.settings_view.specs.Drivers.{drivers_told}
 use Rattle.settings_view.specs.declared.drivers.SingleRun.TheVariants.{Clean}
 use Rattle.settings_view.specs.declared.view.Driver.{Driver}
 use Rattle.settings_view.specs.declared.view.Settings.{Settings}
+use Rattle.checkout_plan.specs.AttributeFiles.{attribute_files}
 use Rattle.checkout_plan.specs.Paths.{asked_path, filter_start, first_entries}
 use Rattle.checkin_paths.specs.declared.path.Storing.{Storing}
 use Rattle.checkin_paths.specs.declared.path.Way.{Way}
@@ -95,15 +96,12 @@ checkin_path files drivers settings e =
 abbrev pub checkin_paths : AttrFiles → List Driver → Settings → List Entry → List CheckinPath
 checkin_paths files drivers settings es = map (checkin_path files drivers settings) (first_entries es)
 
--- the paths of what was read, by the drivers that clean
-abbrev pub paths_in : Attributed → List Driver → List CheckinPath
-paths_in a drivers = checkin_paths a.files drivers a.settings a.index
-
 -- The repository has this index, and these are the paths of it. The drivers that clean are those of its configuration:
 -- each by its `process`, or else by its `clean`.
 pub record HasPaths (told : RepoTold) (drivers : List Driver) (es : List Entry) (ps : List CheckinPath) : Type 0 where
-  pub attributed : Attributed
-  pub has : HasAttributed told attributed
-  pub cleaning : drivers_told Clean attributed.config ≡ Ok drivers
-  pub entries : es ≡ attributed.index
-  pub paths : ps ≡ paths_in attributed drivers
+  pub planned : PlannedIndex
+  pub has : HasPlannedIndex told planned
+  pub cleaning : drivers_told Clean planned.config ≡ Ok drivers
+  pub entries : es ≡ planned.index
+  pub paths : ps ≡ checkin_paths (attribute_files has.outer planned.index has.made.contents) drivers has.settings
+      planned.index

@@ -1,14 +1,14 @@
 //! The paths of an index, or why a check-in stops before it looks at a file.
-ghost use Rattle.std.specs.Prelude.{◌≡◌, Ok};
-ghost use Rattle.settings_view.specs.View.{settings_of};
+ghost use Rattle.std.specs.Prelude.{◌≡◌};
 ghost use Rattle.settings_view.specs.declared.fault.SettingFault.TheVariants.{NoMemory as Wanting};
 ghost use Rattle.checkout_sources.specs.declared.stop.Stop.TheVariants as stop;
-ghost use Rattle.checkin_paths.specs.ReadPaths.{PathsOf, ReadsPaths};
+ghost use Rattle.checkin_paths.specs.ReadPaths.{IsSound, PathsOf, ReadsPaths};
 
 use crate::path::CheckinPath;
-use crate::paths::checkin_paths;
+use crate::paths::planned_paths;
 use byte_path::Items;
-use checkout_sources::{Attributed, Stop, read_attributed};
+use checkout_plan::places_start;
+use checkout_sources::{PlannedIndex, Stop, read_planned_index};
 use edge_kit::Repo;
 use git_index::{Index, entries_can_stand, paths_are_ordered};
 use settings_view::{Driver, SettingFault, cleaning_drivers};
@@ -35,22 +35,20 @@ fn stop_of(fault: SettingFault) -> Stop
 }
 
 /// The paths of what was read. Its settings could be read, so nothing but memory can be wanting for the drivers.
-fn paths_of(alloc: Global, attributed: Attributed) -> Result<PathsRead, Stop>
-    requires { settings_of attributed.config ≡ Ok attributed.settings }
-    ensures { PathsOf attributed result }
+fn paths_of(alloc: Global, planned: PlannedIndex) -> Result<PathsRead, Stop>
+    requires { IsSound planned.config }
+    ensures { PathsOf planned result }
 {
-    let Attributed {
+    let PlannedIndex {
         index,
         config,
-        settings,
-        files,
-    } = attributed;
+        plan,
+    } = planned;
     let drivers = match cleaning_drivers(alloc, &config) {
         Ok(drivers) => drivers,
         Err(fault) => return Err(stop_of(fault)),
     };
-    let Ok(paths) = checkin_paths(alloc, files, drivers.as_slice(), &settings, index.entries())
-    else {
+    let Ok(paths) = planned_paths(alloc, drivers.as_slice(), plan.paths.as_slice()) else {
         return Err(Stop::NoMemory);
     };
     Ok(PathsRead {
@@ -67,6 +65,7 @@ pub fn read_paths<R: Repo>(alloc: Global, repo: &mut R) -> Result<PathsRead, Sto
 {
     entries_can_stand();
     paths_are_ordered();
-    let attributed = read_attributed(alloc, repo)?;
-    paths_of(alloc, attributed)
+    places_start();
+    let planned = read_planned_index(alloc, repo)?;
+    paths_of(alloc, planned)
 }

@@ -33,7 +33,8 @@ use Rattle.checkout_engine.specs.Complete.{failed_leaves}
 use Rattle.checkout_engine.specs.Ends.{Seen, IsCheckedOut, verdicts_of, files_of}
 use Rattle.checkout_paths.specs.Outcome.{Outcome, HasOutcome, AreOutcomes}
 use Rattle.checkout_paths.specs.Paths.{leaves_back}
-use Rattle.checkout_engine.specs.Report.{lacks_memory, report}
+use Rattle.run_report.specs.Rows.{report}
+use Rattle.checkout_engine.specs.Report.{lacks_memory}
 use Rattle.checkout_paths.specs.Talks.{DriverTalk, IsDriverTalk, heard_at}
 use Rattle.checkout_engine.proofs.Drivers.{planned_ordered}
 use Rattle.checkout_engine.proofs.Order.{same_place}

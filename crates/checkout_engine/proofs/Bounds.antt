@@ -35,8 +35,10 @@ use Rattle.eol_convert.specs.declared.setting.AutoCrlf.{AutoCrlf}
 use Rattle.eol_convert.specs.declared.setting.EolSetting.{EolSetting}
 use Rattle.attr_stack.specs.declared.files.OuterFiles.{OuterFiles}
 use Rattle.attr_stack.specs.declared.files.AttrFiles.{AttrFiles}
+use Rattle.attr_stack.specs.Decided.{state_of}
 use Rattle.tree_encoding.specs.declared.encoding.UnknownEncoding.{UnknownEncoding}
 use Rattle.convert_plan.specs.declared.conversion.Conversion.{Conversion}
+use Rattle.convert_plan.specs.Conversion.{conversion_of}
 use Rattle.checkout_core.specs.declared.path.Start.{Start}
 use Rattle.checkout_core.specs.declared.path.Start.TheVariants as start
 use Rattle.checkout_core.specs.declared.verdict.Verdict.TheVariants as verdict
@@ -46,7 +48,7 @@ use Rattle.checkout_words.specs.Words.{with_workers, workers_command, checkout_c
 use Rattle.checkout_words.specs.declared.Command.{Command}
 use Rattle.checkout_words.specs.declared.Command.TheVariants as command
 use Rattle.checkout_plan.specs.AttributeFiles.{attribute_files}
-use Rattle.checkout_plan.specs.Paths.{no_conversion, path_with, closed, converted, file_path, text_path, link_path, path_of_mode, asked_path, first_entries_after, first_entries, asked_paths, start_among, path_among, plan_of}
+use Rattle.checkout_plan.specs.Paths.{conversion_names, filter_start, no_conversion, path_with, closed, converted, file_path, text_path, link_path, path_of_mode, asked_path, first_entries_after, first_entries, asked_paths, start_among, path_among, plan_of}
 use Rattle.checkout_plan.specs.declared.path_plan.PathPlan.{PathPlan}
 use Rattle.checkout_plan.specs.declared.path_plan.Plan.{Plan}
 use Rattle.checkout_engine.proofs.LeftOut.{left_out_by}
@@ -239,9 +241,14 @@ text_by : (e : Entry) (p : PathPlan) (b : Bool) → is_utf8 e.path ≡ b → (Is
 text_by e p true is text = text (IsUtf8-from_is_utf8 e.path is)
 text_by e p false is text = tt
 
+file_text : (files : AttrFiles) (settings : Settings) (e : Entry) → IsLong e.path → IsUtf8 e.path → IsPlannedText (file_path files settings e)
+file_text files settings e long text =
+    converted_text e (filter_start settings.drivers (state_of files e.path (codes "filter")))
+    (conversion_of (map (state_of files e.path) conversion_names) settings.autocrlf settings.eol) long text
+
 mode_text : (m : Mode) (files : AttrFiles) (settings : Settings) (e : Entry) → IsLong e.path → IsPlannedText (path_of_mode m files settings e)
-mode_text mode.Plain files settings e long = left_out_by IsPlannedText e (text_path files settings e) (λ v. tt) (text_by e (file_path files settings e) (is_utf8 e.path) refl (converted_text e _ _ long))
-mode_text mode.Executable files settings e long = left_out_by IsPlannedText e (text_path files settings e) (λ v. tt) (text_by e (file_path files settings e) (is_utf8 e.path) refl (converted_text e _ _ long))
+mode_text mode.Plain files settings e long = left_out_by IsPlannedText e (text_path files settings e) (λ v. tt) (text_by e (file_path files settings e) (is_utf8 e.path) refl (file_text files settings e long))
+mode_text mode.Executable files settings e long = left_out_by IsPlannedText e (text_path files settings e) (λ v. tt) (text_by e (file_path files settings e) (is_utf8 e.path) refl (file_text files settings e long))
 mode_text mode.Link files settings e long = left_out_by IsPlannedText e (link_path e) (λ v. tt) (text_by e (path_with e no_conversion start.Pool) (is_utf8 e.path) refl (long_text e.path long))
 mode_text mode.Gitlink files settings e long = tt
 

@@ -1,6 +1,6 @@
 -- The drivers of a plan, and the order of its paths.
 use Rattle.std.proofs.Common.{◌≡◌, ℕ, zero, suc, ◌+◌, ◌≤◌, ◌==◌, eq-eqb, ◌||◌, Bool, true, false, if◌then◌else◌, List, [], ◌∷◌, length, map, Option, Some, None, Result, Ok, Err, refl, sym, ap, ◌∙◌, subst, arith}
-use Rattle.std.specs.Prelude.{slice_get}
+use Rattle.std.specs.Prelude.{slice_get, codes}
 use Rattle.std.specs.List.{list_any, AllByRecursion}
 use Rattle.std.specs.Str.{bytes_eq, is_utf8}
 use Rattle.std.proofs.lemmas.Bool.{eqb-true}
@@ -14,10 +14,12 @@ use Rattle.attr_stack.specs.declared.files.OuterFiles.{OuterFiles}
 use Rattle.attr_line.specs.declared.state.AttrState.{AttrState}
 use Rattle.attr_line.specs.declared.state.AttrState.TheVariants as state
 use Rattle.attr_stack.specs.declared.files.AttrFiles.{AttrFiles}
+use Rattle.attr_stack.specs.Decided.{state_of}
 use Rattle.settings_view.specs.declared.view.Driver.{Driver}
 use Rattle.settings_view.specs.declared.view.Settings.{Settings}
 use Rattle.tree_encoding.specs.declared.encoding.UnknownEncoding.{UnknownEncoding}
 use Rattle.convert_plan.specs.declared.conversion.Conversion.{Conversion}
+use Rattle.convert_plan.specs.Conversion.{conversion_of}
 use Rattle.checkout_core.specs.declared.verdict.Verdict.TheVariants as verdict
 use Rattle.checkout_core.specs.declared.verdict.FailCause.TheVariants as fail
 use Rattle.checkout_core.specs.declared.verdict.SkipCause.TheVariants as skip
@@ -26,7 +28,7 @@ use Rattle.checkout_core.specs.declared.path.Start.TheVariants as start
 use Rattle.checkout_plan.specs.declared.path_plan.PathPlan.{PathPlan}
 use Rattle.checkout_plan.specs.declared.path_plan.Plan.{Plan}
 use Rattle.checkout_plan.specs.AttributeFiles.{attribute_files}
-use Rattle.checkout_plan.specs.Paths.{no_conversion, path_with, closed, converted, file_path, text_path, link_path, path_of_mode, asked_path, asked_paths, first_entries, path_among, start_among, plan_of}
+use Rattle.checkout_plan.specs.Paths.{conversion_names, no_conversion, path_with, closed, converted, file_path, text_path, link_path, path_of_mode, asked_path, asked_paths, first_entries, path_among, start_among, plan_of}
 use Rattle.checkout_plan.specs.Paths.{start_by, start_at, start_named, filter_start, is_desk_of, asks_for, is_used, used_from, number_at}
 use Rattle.checkout_engine.proofs.LeftOut.{left_out_by}
 use Rattle.checkout_paths.specs.Cards.{AreOrdered, AreDrivers, HasDriver}
@@ -81,9 +83,15 @@ text_is : (ds : List Driver) (e : Entry) (p : PathPlan) (b : Bool) → StartsBy 
 text_is ds e p true is = is
 text_is ds e p false is = tt
 
+file_is : (files : AttrFiles) (settings : Settings) (e : Entry) → StartsBy settings.drivers (file_path files settings e).start
+file_is files settings e =
+    converted_is settings.drivers e (filter_start settings.drivers (state_of files e.path (codes "filter")))
+    (conversion_of (map (state_of files e.path) conversion_names) settings.autocrlf settings.eol)
+    (filter_is settings.drivers (state_of files e.path (codes "filter")))
+
 mode_is : (m : Mode) (files : AttrFiles) (settings : Settings) (e : Entry) → StartsBy settings.drivers (path_of_mode m files settings e).start
-mode_is mode.Plain files settings e = left_out_by (λ p. StartsBy settings.drivers p.start) e (text_path files settings e) (λ v. tt) (text_is settings.drivers e (file_path files settings e) (is_utf8 e.path) (converted_is settings.drivers e _ _ (filter_is settings.drivers _)))
-mode_is mode.Executable files settings e = left_out_by (λ p. StartsBy settings.drivers p.start) e (text_path files settings e) (λ v. tt) (text_is settings.drivers e (file_path files settings e) (is_utf8 e.path) (converted_is settings.drivers e _ _ (filter_is settings.drivers _)))
+mode_is mode.Plain files settings e = left_out_by (λ p. StartsBy settings.drivers p.start) e (text_path files settings e) (λ v. tt) (text_is settings.drivers e (file_path files settings e) (is_utf8 e.path) (file_is files settings e))
+mode_is mode.Executable files settings e = left_out_by (λ p. StartsBy settings.drivers p.start) e (text_path files settings e) (λ v. tt) (text_is settings.drivers e (file_path files settings e) (is_utf8 e.path) (file_is files settings e))
 mode_is mode.Link files settings e = left_out_by (λ p. StartsBy settings.drivers p.start) e (link_path e) (λ v. tt) (text_is settings.drivers e (path_with e no_conversion start.Pool) (is_utf8 e.path) tt)
 mode_is mode.Gitlink files settings e = tt
 

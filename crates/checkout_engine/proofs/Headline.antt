@@ -1,32 +1,34 @@
 -- What a checkout that is done leaves, path by path.
-use Rattle.std.proofs.Common.{◌≡◌, ◌<◌, inl, ℕ, suc, Bool, true, false, ◌||◌, if◌then◌else◌, List, [], ◌∷◌, length, map, Option, Some, None, refl, sym, ap, ◌∙◌, subst, arith}
-use Rattle.std.specs.List.{AllByRecursion, filter_map, list_any}
+use Rattle.std.proofs.Common.{◌≡◌, ◌+◌, inl, ℕ, suc, Bool, true, false, ◌||◌, List, [], ◌∷◌, length, map, Option, Some, None, refl, sym, ap, ◌∙◌, subst}
+use Rattle.std.specs.List.{AllByRecursion, filter_map}
 use Rattle.edge_kit.specs.Seen.{RepoSeen, TreeSeen}
 use Rattle.edge_kit.specs.Starters.{Starts}
 use Rattle.edge_kit.specs.Told.{Told, RepoTold, Tells}
 use Rattle.edge_kit.specs.declared.leaf_state.LeafState.{LeafState}
 use Rattle.edge_kit.specs.declared.leaf_state.LeafState.TheVariants.{Fresh, Partly, Sealed, Gone, Broken, Stuck}
 use Rattle.edge_kit.specs.declared.tree_file.TreeFile.{TreeFile}
+use Rattle.checkout_core.specs.declared.event.Event.{Event}
 use Rattle.checkout_core.specs.declared.path.Start.{Start}
 use Rattle.checkout_core.specs.declared.path.Start.TheVariants as start
 use Rattle.checkout_core.specs.declared.verdict.Verdict.{Verdict}
 use Rattle.checkout_core.specs.declared.verdict.Verdict.TheVariants as verdict
 use Rattle.checkout_core.specs.declared.verdict.FailCause.TheVariants as fail
-use Rattle.checkout_report.specs.Report.{is_failed}
 use Rattle.convert_plan.specs.Prepared.{prepared}
 use Rattle.tree_encoding.specs.declared.prepared.Prepared.{Prepared}
 use Rattle.checkout_plan.specs.declared.path_plan.PathPlan.{PathPlan}
 use Rattle.checkout_plan.specs.declared.path_plan.Plan.{Plan}
 use Rattle.checkout_plan.specs.Paths.{HasCause, ClosedPathsHaveCauses}
 use Rattle.checkout_engine.specs.Alike.{ActorsAreNumbered}
-use Rattle.checkout_engine.specs.Ending.{IsDone}
-use Rattle.checkout_engine.specs.Ends.{Seen, verdicts_of, files_of}
-use Rattle.checkout_engine.specs.Headline.{EndsInPool, EndsAtDesk, EndsWith, AllEnd, IsHeadline}
+use Rattle.checkout_engine.specs.declared.end.Checkout.{Checkout}
+use Rattle.checkout_engine.specs.declared.end.Checkout.TheVariants as ends
+use Rattle.checkout_engine.specs.declared.end.CheckoutRun.{CheckoutRun}
+use Rattle.checkout_engine.specs.Checkout.{Leaves, IsRunOf}
+use Rattle.checkout_engine.specs.Ends.{Seen, IsCheckedOut, verdicts_of, files_of}
+use Rattle.checkout_engine.specs.Headline.{EndsInPool, EndsAtDesk, EndsWith, AllEnd, IsRunHeadline, LeavesHeadline}
 use Rattle.checkout_paths.specs.Outcome.{Outcome, MayLeavePart, MayLeaveFile, LeavesPart, LeavesFile, HasVerdict, HasDeskVerdict, HasOutcome, AreOutcomes}
-use Rattle.checkout_engine.specs.Output.{with_text}
-use Rattle.checkout_engine.specs.Report.{lacks_memory, status_of, number_of, report}
+use Rattle.checkout_engine.specs.Report.{lacks_memory}
 use Rattle.writer_pool.specs.Ends.{IsRun}
-use Rattle.checkout_paths.specs.Workers.{starts_of, worker_count}
+use Rattle.checkout_paths.specs.Workers.{starts_of, worker_count, HaveActorsBelow}
 use Rattle.checkout_paths.specs.Cards.{DriversAreInUse}
 use Rattle.checkout_engine.proofs.Actors.{KeepsSize, HandsAreTold, actors_below}
 use Rattle.checkout_engine.proofs.Drivers.{planned_drivers}
@@ -130,44 +132,48 @@ same_files (o ∷ os) = elim o.file as (λ file. o.file ≡ file → filter_map 
   | Some f ↦ λ is. rw is (ap (λ (fs : List TreeFile). f ∷ fs) (same_files os))
 ] refl
 
--- a number below 2 says that memory was left, and whether a path failed
-memory_left : (vs : List Verdict) (n : ℕ) → n < 2 → n ≡ number_of (status_of vs) → lacks_memory vs ≡ false
-memory_left vs n less is = elim (lacks_memory vs) as (λ lacks. lacks_memory vs ≡ lacks → lacks ≡ false) [
-  | true ↦ λ l. let five : n ≡ 5 = rw l at is in absurd (omega (arith, five, less))
-  | false ↦ λ l. refl
-] refl
-
-number_is : (vs : List Verdict) (n : ℕ) → lacks_memory vs ≡ false → n ≡ number_of (status_of vs) → n ≡ (if list_any is_failed vs then 1 else 0)
-number_is vs n left is = elim (list_any is_failed vs) as (λ failed. list_any is_failed vs ≡ failed → n ≡ (if failed then 1 else 0)) [
-  | true ↦ λ f. rw (left, f) at is
-  | false ↦ λ f. rw (left, f) at is
-] refl
-
 -- the actors of a run
 pub actors_of : DriversAreInUse → KeepsSize → HandsAreTold → ActorsAreNumbered
 actors_of in_use sizes hands told ahead asked old new c =
     let known = planned_drivers told c.plan c.planned in
     actors_below (starts_of c.plan.paths) (worker_count asked c.planned.settings c.plan.paths) (length c.plan.drivers) (in_use c.plan.drivers c.plan.paths known) sizes hands new.history c.run.core c.run.legal
 
-pub headline : DriversAreInUse → KeepsSize → HandsAreTold → ClosedPathsHaveCauses → (told : RepoTold) (ahead : List ℕ → Starts) (asked : Option ℕ) (old new : Seen) (n : ℕ) → n < 2 → IsDone told ahead asked old new n → IsHeadline told ahead asked old new n
-headline in_use sizes hands law told ahead asked old new n less (c, reported) =
-    let causes : AllByRecursion (λ p. HasCause p.start) c.plan.paths = subst (λ (plan : Plan). AllByRecursion (λ p. HasCause p.start) plan.paths) (sym c.planned.made.is)
+-- what holds of equal verdicts and histories
+moved : (P : List Verdict → List Event → Type 0) (vs ws : List Verdict) (h k : List Event) → vs ≡ ws → h ≡ k → P ws k → P vs h
+moved P vs ws h k verdicts history p = subst (λ (x : List Verdict). P x h) (sym verdicts) (subst (λ (x : List Event). P ws x) (sym history) p)
+
+run_headline : DriversAreInUse → KeepsSize → HandsAreTold → ClosedPathsHaveCauses → (told : RepoTold) (ahead : List ℕ → Starts) (asked : Option ℕ) (old new : Seen) (run : CheckoutRun) (c : IsCheckedOut told ahead asked old new) → IsRunOf c run
+    → lacks_memory run.verdicts.items ≡ false → IsRunHeadline told ahead asked old new run
+run_headline in_use sizes hands law told ahead asked old new run c own left =
+    let plan = c.plan in
+    let causes : AllByRecursion (λ p. HasCause p.start) plan.paths = subst (λ (plan : Plan). AllByRecursion (λ p. HasCause p.start) plan.paths) (sym c.planned.made.is)
     (law c.planned.entries c.planned.settings c.planned.outer c.planned.made.contents) in
-    let left = memory_left (verdicts_of c.outcomes) n less reported.status in
-    record {
-      plan = c.plan;
+    let memory : lacks_memory (verdicts_of c.outcomes) ≡ false = ap lacks_memory (sym own.verdicts_are) ∙ left in
+    let over : IsRunHeadline told ahead asked old new (record run { plan = plan }) = record {
       planned = c.planned;
       talks = c.talks;
       ends = ends_of c.outcomes;
-      verdicts = paths_end told.object c.talks 0 c.plan.paths c.outcomes causes c.verdicts left;
-      conversations = subst (λ (vs : List Verdict). AreDriverTalks ahead told.object c.plan.paths vs new.history 0 c.plan.drivers c.talks) (sym (same_verdicts c.outcomes)) c.conversations;
+      verdicts_are = own.verdicts_are ∙ sym (same_verdicts c.outcomes);
+      history_is = own.history_is;
+      verdicts = paths_end told.object c.talks 0 plan.paths c.outcomes causes c.verdicts memory;
+      conversations = moved (λ vs h. AreDriverTalks ahead told.object plan.paths vs h 0 plan.drivers c.talks) run.verdicts.items (verdicts_of c.outcomes) run.history.items new.history own.verdicts_are own.history_is c.conversations;
       files = subst (λ (fs : List TreeFile). Tells new.tree.files fs) (sym (same_files c.outcomes)) c.files;
-      report = reported.report ∙ ap (λ (vs : List Verdict). with_text (report c.plan.paths vs) old.sink) (sym (same_verdicts c.outcomes));
-      status = number_is (verdicts_of c.outcomes) n left reported.status
-          ∙ ap (λ (vs : List Verdict). if list_any is_failed vs then 1 else 0) (sym (same_verdicts c.outcomes));
       blobs = ap (λ (r : RepoSeen). r.out) c.blobs;
       leaves = ap (λ (t : TreeSeen). t.out) c.leaves;
       starters = c.starters;
-      run = subst (λ (vs : List Verdict). IsRun (starts_of c.plan.paths) (worker_count asked c.planned.settings c.plan.paths) (length c.plan.drivers) new.history vs) (sym (same_verdicts c.outcomes)) c.run;
-      actors = actors_of in_use sizes hands told ahead asked old new c;
-    }
+      workers_are = own.workers_are;
+      ran = subst (λ (n : ℕ). IsRun (starts_of plan.paths) n (length plan.drivers) run.history.items run.verdicts.items) (sym own.workers_are)
+          (moved (λ vs h. IsRun (starts_of plan.paths) (worker_count asked c.planned.settings plan.paths) (length plan.drivers) h vs) run.verdicts.items (verdicts_of c.outcomes) run.history.items new.history own.verdicts_are own.history_is c.run);
+      actors = subst (λ (n : ℕ). HaveActorsBelow (n + length plan.drivers) (starts_of plan.paths) n run.history.items) (sym own.workers_are)
+          (subst (λ (h : List Event). let workers = worker_count asked c.planned.settings plan.paths in HaveActorsBelow (workers + length plan.drivers) (starts_of plan.paths) workers h) (sym own.history_is)
+          (actors_of in_use sizes hands told ahead asked old new c));
+    } in
+    subst (λ (p : Plan). IsRunHeadline told ahead asked old new (record run { plan = p })) (sym own.plan_is) over
+
+-- the headline of a checkout, by what it leaves
+pub leaves_headline : DriversAreInUse → KeepsSize → HandsAreTold → ClosedPathsHaveCauses → (told : RepoTold) (ahead : List ℕ → Starts) (asked : Option ℕ) (old new : Seen) (e : Checkout) → Leaves told ahead asked old new e → LeavesHeadline told ahead asked old new e
+leaves_headline in_use sizes hands law told ahead asked old new (ends.Done run) (c, own) = run_headline in_use sizes hands law told ahead asked old new run c own
+leaves_headline in_use sizes hands law told ahead asked old new ends.NotEmpty left = tt
+leaves_headline in_use sizes hands law told ahead asked old new (ends.Refused r) left = tt
+leaves_headline in_use sizes hands law told ahead asked old new ends.ReadFault left = tt
+leaves_headline in_use sizes hands law told ahead asked old new ends.NoMemory left = tt

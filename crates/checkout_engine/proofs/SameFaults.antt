@@ -18,7 +18,8 @@ use Rattle.checkout_engine.specs.Complete.{failed_leaves}
 use Rattle.checkout_engine.specs.Ends.{verdicts_of}
 use Rattle.checkout_paths.specs.Outcome.{Outcome, AreOutcomes, leaf_back}
 use Rattle.checkout_engine.specs.Rehearsed.{is_write_failed}
-use Rattle.checkout_engine.specs.Report.{lacks_memory, report}
+use Rattle.run_report.specs.Rows.{report}
+use Rattle.checkout_engine.specs.Report.{lacks_memory}
 use Rattle.checkout_engine.specs.SameFaults.{HaveSameFile, SameFaultsChangeNothing, leaf_counts}
 use Rattle.checkout_paths.specs.Talks.{DriverTalk}
 use Rattle.checkout_engine.proofs.Alike.{AllHearAlike, ends_of, same_path, same_sessions}

@@ -1,8 +1,9 @@
--- A plan is small, and so is the run of a rehearsal.
-use Rattle.std.proofs.Common.{◌≡◌, ◌≤◌, ◌*◌, ℕ, List, [], ◌∷◌, length, Option, Some, None, Ok, sym, ap, ◌∙◌, subst, arith}
+-- A plan is small, and so is the run of a checkout and that of a rehearsal.
+use Rattle.std.proofs.Common.{◌≡◌, ◌≤◌, ◌*◌, ℕ, List, [], ◌∷◌, length, Option, None, sym, ap, ◌∙◌, subst, arith}
 use Rattle.std.specs.List.{AllByRecursion, filter}
 use Rattle.std.proofs.lemmas.List.{length-map}
-use Rattle.edge_kit.specs.Seen.{RepoSeen, TreeSeen}
+use Rattle.edge_kit.specs.Seen.{TreeSeen}
+use Rattle.edge_kit.specs.Starters.{Starts}
 use Rattle.edge_kit.specs.Told.{RepoTold}
 use Rattle.checkout_core.specs.declared.event.Event.{Event}
 use Rattle.checkout_core.specs.declared.path.Start.{Start}
@@ -11,21 +12,18 @@ use Rattle.checkout_core.specs.Steps.{IsLegal}
 use Rattle.checkout_plan.specs.Paths.{HasCause, ClosedPathsHaveCauses}
 use Rattle.checkout_plan.specs.declared.path_plan.PathPlan.{PathPlan}
 use Rattle.checkout_plan.specs.declared.path_plan.Plan.{Plan}
-use Rattle.checkout_words.specs.Words.{command_of}
-use Rattle.checkout_words.specs.declared.Command.{Command}
-use Rattle.checkout_words.specs.declared.Command.TheVariants as command
 use Rattle.writer_pool.specs.Ends.{IsRun}
-use Rattle.checkout_engine.specs.declared.begin.PlannedRun.{PlannedRun}
-use Rattle.checkout_sources.specs.declared.planned.Planned.{Planned}
 use Rattle.checkout_engine.specs.declared.end.CheckoutRun.{CheckoutRun}
-use Rattle.checkout_engine.specs.Begun.{IsSmallStart, PlansRun}
-use Rattle.checkout_engine.specs.Ends.{verdicts_of}
-use Rattle.checkout_sources.specs.Reading.{IsRead}
-use Rattle.checkout_engine.specs.Rehearsed.{IsRehearsed, IsRehearsedRun, IsSmallRun}
+use Rattle.checkout_engine.specs.declared.end.Checkout.{Checkout}
+use Rattle.checkout_engine.specs.declared.end.Checkout.TheVariants as ends
+use Rattle.checkout_engine.specs.Checkout.{HasVerdicts, HasWholeRun, Leaves}
+use Rattle.checkout_engine.specs.Ends.{Seen, verdicts_of}
+use Rattle.checkout_engine.specs.Small.{IsSmallStart, IsSmallRun}
+use Rattle.checkout_engine.specs.Rehearsed.{IsRehearsed, IsRehearsedRun}
 use Rattle.checkout_sources.specs.Sources.{IsPlanned}
-use Rattle.checkout_paths.specs.Workers.{starts_of, in_pool, worker_count, workers_for, IsAsked}
+use Rattle.checkout_paths.specs.Workers.{starts_of, in_pool, worker_count, IsAsked}
 use Rattle.checkout_paths.specs.Cards.{DriversAreInUse}
-use Rattle.checkout_engine.proofs.Bounds.{no_more_paths, settings_few, count_few, asked_few}
+use Rattle.checkout_engine.proofs.Bounds.{no_more_paths, settings_few, count_few}
 use Rattle.checkout_engine.proofs.Drivers.{planned_drivers}
 
 -- ---- their starts
@@ -95,27 +93,22 @@ small_as starts starts' workers workers' drivers drivers' a b c small =
     (subst (λ (k : ℕ). IsSmallStart starts' k drivers) (sym b)
     (subst (λ (k : ℕ). IsSmallStart starts' workers' k) (sym c) small))
 
--- what is handed on of a plan that was read
-pub run_planned : DriversAreInUse → ClosedPathsHaveCauses → (told : RepoTold) (words : List (List ℕ)) (asked : Option ℕ) (old new : RepoSeen) (p : Planned) (run : PlannedRun) → command_of words ≡ Some (command.Checkout asked) → IsRead told p old new
-    → run.starts.items ≡ starts_of p.plan.paths → run.workers ≡ workers_for asked p.workers p.threshold (length (filter in_pool p.plan.paths)) → run.drivers ≡ length p.plan.drivers
-    → PlansRun told (command_of words) old new (Ok (Some run))
-run_planned in_use closed told words asked old new p run is read starts workers drivers =
-    let plan = p.plan in
-    let planned : IsPlanned told plan = read.read.planned in
-    let cards = length (filter in_pool plan.paths) in
-    let begun : run.workers ≡ worker_count asked planned.settings plan.paths =
-    workers ∙ ap (λ (n : ℕ). workers_for asked n p.threshold cards) read.workers ∙ ap (λ (t : ℕ). workers_for asked planned.settings.workers t cards) read.threshold in
-    subst (λ (c : Option Command). PlansRun told c old new (Ok (Some run))) (sym is) (
-      tt,
-      record {
-        plan = plan;
-        read = read.read;
-        starts_are = starts;
-        workers_are = begun;
-        drivers_are = drivers;
-        small = small_as run.starts.items _ run.workers _ run.drivers _ starts begun drivers (start_small in_use closed told asked plan planned (asked_few words asked is));
-      },
-    )
+-- the run of a checkout is
+pub whole_end : DriversAreInUse → ClosedPathsHaveCauses → IsShort → (told : RepoTold) (ahead : List ℕ → Starts) (asked : Option ℕ) (old new : Seen) (e : Checkout) → IsAsked asked → HasVerdicts e → Leaves told ahead asked old new e → HasWholeRun e
+whole_end in_use closed short told ahead asked old new (ends.Done run) few verdicts (c, own) =
+    let start : IsSmallStart (starts_of run.plan.paths) run.workers (length run.plan.drivers) =
+    small_as (starts_of run.plan.paths) (starts_of (c.plan).paths) run.workers (worker_count asked (c.planned).settings (c.plan).paths) (length run.plan.drivers) (length (c.plan).drivers)
+    (ap (λ (p : Plan). starts_of p.paths) own.plan_is) own.workers_are (ap (λ (p : Plan). length p.drivers) own.plan_is) (start_small in_use closed told asked c.plan c.planned few) in
+    let begun = start_small in_use closed told asked c.plan c.planned few in
+    let events = short (starts_of (c.plan).paths) (worker_count asked (c.planned).settings (c.plan).paths) (length (c.plan).drivers) new.history (c.run).core begun.desks (c.run).legal in
+    record {
+      verdicts = verdicts;
+      small = record { start = start; few_events = omega (arith, begun.few_starts, events, ap length own.history_is) };
+    }
+whole_end in_use closed short told ahead asked old new ends.NotEmpty few verdicts left = tt
+whole_end in_use closed short told ahead asked old new (ends.Refused r) few verdicts left = tt
+whole_end in_use closed short told ahead asked old new ends.ReadFault few verdicts left = tt
+whole_end in_use closed short told ahead asked old new ends.NoMemory few verdicts left = tt
 
 -- and the run of a rehearsal is
 pub run_small : DriversAreInUse → ClosedPathsHaveCauses → IsShort → (seed n : ℕ) (starts : List Start) (workers drivers : ℕ) (history : List Event) → IsRehearsedRun seed n starts workers drivers history → IsSmallRun starts workers drivers history

@@ -17,7 +17,8 @@ use Rattle.settings_view.specs.declared.view.Settings.{Settings}
 use Rattle.checkout_plan.specs.declared.path_plan.Plan.{Plan}
 use Rattle.checkout_engine.specs.Complete.{failed_leaves, HadMemory}
 use Rattle.checkout_engine.specs.Ends.{Seen, IsCheckedOut, verdicts_of, files_of}
-use Rattle.checkout_engine.specs.Report.{lacks_memory, report}
+use Rattle.run_report.specs.Rows.{report}
+use Rattle.checkout_engine.specs.Report.{lacks_memory}
 use Rattle.checkout_paths.specs.Talks.{DriverTalk}
 use Rattle.checkout_sources.specs.Sources.{HasSettings, IsPlanned}
 use Rattle.checkout_paths.specs.Workers.{starts_of, worker_count, HaveActorsBelow}

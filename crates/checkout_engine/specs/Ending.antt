@@ -19,10 +19,12 @@ use Rattle.checkout_engine.specs.declared.end.Checkout.TheVariants as ends
 use Rattle.checkout_engine.specs.declared.end.CheckoutRun.{CheckoutRun}
 use Rattle.checkout_engine.specs.declared.halt.Halt.{Halt}
 use Rattle.checkout_engine.specs.declared.halt.Halt.TheVariants as halt
-use Rattle.checkout_engine.specs.declared.exit_status.ExitStatus.{ExitStatus}
-use Rattle.checkout_engine.specs.declared.exit_status.ExitStatus.TheVariants as status
-use Rattle.checkout_engine.specs.Ends.{Seen, IsCheckedOut, IsReported, IsRefused, IsCutOff}
-use Rattle.checkout_engine.specs.Ends.{IsOutOfMemory, IsReadFault, IsNotEmpty, verdicts_of}
+use Rattle.exit_status.specs.declared.status.ExitStatus.{ExitStatus}
+use Rattle.exit_status.specs.declared.status.ExitStatus.TheVariants as status
+use Rattle.checkout_engine.specs.Commands.{EndsWith, before_said}
+use Rattle.checkout_engine.specs.Complete.{Finishes}
+use Rattle.checkout_engine.specs.Ends.{Seen}
+use Rattle.checkout_engine.specs.Headline.{LeavesHeadline}
 use Rattle.checkout_engine.specs.Shown.{EndsPlan}
 use Rattle.checkout_engine.specs.Rehearsed.{EndsRehearsal}
 
@@ -72,22 +74,13 @@ pub record IsRunOver (ahead : List ℕ → Starts) (object : List ℕ → Told) 
   pub at_pace : let plan = paced.planned.plan in
       IsRunAt (pace_of paced) plan.paths plan.drivers run.workers run.history.items run.verdicts.items
 
--- a checkout that is done, with its report and its number
-abbrev pub IsDone : RepoTold → (List ℕ → Starts) → Option ℕ → Seen → Seen → ℕ → Type 0
-IsDone told ahead asked old new number =
-    (c : IsCheckedOut told ahead asked old new)
-    × IsReported c.plan.paths (verdicts_of c.outcomes) old.sink new.sink number
-
--- how a checkout ends, by its status
-abbrev pub EndsCheckout : RepoTold → (List ℕ → Starts) → Option ℕ → Seen → Seen → ExitStatus → Type 0
-EndsCheckout told ahead asked old new status.Done = IsDone told ahead asked old new 0
-EndsCheckout told ahead asked old new status.DoneWithFailures = IsDone told ahead asked old new 1
-EndsCheckout told ahead asked old new status.Usage = ⊥
-EndsCheckout told ahead asked old new status.Refused = IsRefused told old new
-EndsCheckout told ahead asked old new status.OutputNotWritten = IsCutOff told ahead asked old new
-EndsCheckout told ahead asked old new status.OutOfMemory = IsOutOfMemory told ahead asked old new
-EndsCheckout told ahead asked old new status.ReadFault = IsReadFault told old new
-EndsCheckout told ahead asked old new status.NotEmpty = IsNotEmpty old new
+-- how the command of a checkout ends: as the checkout does, which has its headline, and is finished if it has all that it
+-- needs
+pub record EndsCheckout (told : RepoTold) (ahead : List ℕ → Starts) (asked : Option ℕ) (old new : Seen)
+    (s : ExitStatus) : Type 0 where
+  pub so : EndsWith told ahead asked old new s
+  pub headline : LeavesHeadline told ahead asked old (before_said old new so.end) so.end
+  pub complete : Finishes told ahead old (before_said old new so.end) so.end
 
 -- how words end that are not a command: nothing at all was done
 pub record EndsUnasked (old new : Seen) (s : ExitStatus) : Type 0 where

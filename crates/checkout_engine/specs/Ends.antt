@@ -24,9 +24,11 @@ use Rattle.checkout_paths.specs.Outcome.{Outcome, AreOutcomes}
 use Rattle.checkout_paths.specs.Talks.{DriverTalk, AreDriverTalks, with_talks}
 use Rattle.checkout_paths.specs.Made.{BreaksOff}
 use Rattle.checkout_paths.specs.Paths.{with_blobs, blobs_back, leaves_back, GotLeaves}
-use Rattle.checkout_engine.specs.Output.{IsCut, IsLineCut, with_text}
+use Rattle.exit_status.specs.Output.{with_text}
 use Rattle.checkout_paths.specs.Workers.{starts_of, worker_count}
-use Rattle.checkout_engine.specs.Report.{status_of, lacks_memory, report, number_of}
+use Rattle.run_report.specs.Rows.{report}
+use Rattle.checkout_engine.specs.Report.{status_of}
+use Rattle.exit_status.specs.Status.{number_of}
 use Rattle.checkout_sources.specs.RefusalText.{refusal_line}
 
 -- the command that the words give
@@ -124,63 +126,30 @@ IsRefused told old new =
     (refusal : Refusal) × HasRefusal told refusal old new
     × (new.sink ≡ with_text (refusal_line refusal) old.sink)
 
--- 4: the sink failed, at the line of a refusal, or in the report of a checkout that is done.
-pub record IsCutOff (told : RepoTold) (ahead : List ℕ → Starts) (asked : Option ℕ) (old new : Seen) : Type 0 where
-  pub failed : Rose old.sink.faults new.sink.faults
-  pub cut :
-      ((refusal : Refusal) × HasRefusal told refusal old new
-      × IsCut (refusal_line refusal) old.sink new.sink)
-      ⊎ ((c : IsCheckedOut told ahead asked old new) × (lacks_memory (verdicts_of c.outcomes) ≡ false)
-      × IsCut (report c.plan.paths (verdicts_of c.outcomes)) old.sink new.sink)
-
--- nothing was touched, and nothing was written
-pub record IsIdle (old new : Seen) : Type 0 where
-  pub untouched : IsUntouched old new
-  pub silent : new.sink ≡ old.sink
-
--- How a report ends as memory ran out: while it was written, at the end of a line; or for some path before that, and
--- then it was written whole, or the sink failed.
-abbrev pub EndsReport : List ℕ → List Verdict → SinkSeen → SinkSeen → Type 0
-EndsReport text verdicts old new =
-    IsLineCut text old new
-    ⊎ ((lacks_memory verdicts ≡ true)
-    × ((new ≡ with_text text old) ⊎ (IsCut text old new × Rose old.faults new.faults)))
-
--- The checkout is done, and memory ran out.
-pub record IsReportCut (told : RepoTold) (ahead : List ℕ → Starts) (asked : Option ℕ) (old new : Seen) : Type 0 where
-  pub checkout : IsCheckedOut told ahead asked old new
-  pub report : EndsReport (report checkout.plan.paths (verdicts_of checkout.outcomes))
-      (verdicts_of checkout.outcomes) old.sink new.sink
-
--- Memory ran out once the plan was read and before the paths were done, and nothing is reported. What was made is back,
--- unused, or all of it is out.
+-- Memory ran out once the plan was read and before the paths were done. What was made is back, unused, or all of it is
+-- out.
 pub record IsBrokenOff (told : RepoTold) (old new : Seen) : Type 0 where
   pub empty : Tells old.tree.empty true
   pub plan : Plan
   pub planned : IsPlanned told plan
   pub made : BreaksOff plan.paths plan.drivers (with_blobs old.repo (blobs_of planned.entries)) new.repo
       old.tree new.tree old.spawner new.spawner
-  pub silent : new.sink ≡ old.sink
   pub history : new.history ≡ old.history
 
 -- Memory ran out before any leaf or starter was made. The blobs of the first attribute files may have been made and
 -- given back.
 pub record IsStopped (told : RepoTold) (old new : Seen) : Type 0 where
-  pub idle : IsIdle old new
+  pub untouched : IsUntouched old new
   pub repo : IsCutShort told old.repo new.repo
   pub steady : IsSteady old new
-
--- 5: memory ran out, before any file was touched, before the paths were done, or after that.
-abbrev pub IsOutOfMemory : RepoTold → (List ℕ → Starts) → Option ℕ → Seen → Seen → Type 0
-IsOutOfMemory told ahead asked old new =
-    IsStopped told old new ⊎ IsBrokenOff told old new ⊎ IsReportCut told ahead asked old new
 
 -- 6: the worktree or a read of the repository failed, and nothing else, before a file was touched.
 pub record IsReadFault (told : RepoTold) (old new : Seen) : Type 0 where
   pub cause : (Rose old.tree.faults new.tree.faults × (new.repo ≡ old.repo))
       ⊎ (Tells old.tree.empty true × (new.tree.faults ≡ old.tree.faults)
       × IsReadCause told old.repo new.repo)
-  pub idle : IsIdle old new
+  pub untouched : IsUntouched old new
+  pub silent : new.sink ≡ old.sink
 
 -- 7: the worktree wasn't empty, and nothing at all was done.
 abbrev pub IsNotEmpty : Seen → Seen → Type 0

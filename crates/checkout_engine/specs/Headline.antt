@@ -1,4 +1,4 @@
--- The headline: what a checkout that ends with 0 or 1 leaves, path by path.
+-- The headline: what a checkout leaves that is done, path by path.
 use Rattle.std.specs.Prelude.{◌≡◌, ◌+◌, ℕ, suc, Bool, true, false, List, [], ◌∷◌, map, length, slice_get, Option, Some}
 use Rattle.std.specs.Prelude.{None, Ok, if◌then◌else◌}
 use Rattle.std.specs.List.{filter_map, list_any}
@@ -17,14 +17,17 @@ use Rattle.writer_pool.specs.Ends.{IsRun}
 use Rattle.tree_encoding.specs.declared.prepared.Prepared.{Prepared}
 use Rattle.convert_plan.specs.Prepared.{prepared}
 use Rattle.checkout_plan.specs.declared.path_plan.PathPlan.{PathPlan}
-use Rattle.checkout_plan.specs.declared.path_plan.Plan.{Plan}
 use Rattle.checkout_plan.specs.Making.{FitsKind}
 use Rattle.checkout_plan.specs.Paths.{HasCause}
+use Rattle.checkout_engine.specs.declared.end.Checkout.{Checkout}
+use Rattle.checkout_engine.specs.declared.end.Checkout.TheVariants as ends
+use Rattle.checkout_engine.specs.declared.end.CheckoutRun.{CheckoutRun}
 use Rattle.checkout_engine.specs.Ends.{Seen}
 use Rattle.checkout_paths.specs.Outcome.{MayLeavePart, MayLeaveFile, MayBePut, file_with}
-use Rattle.checkout_engine.specs.Output.{with_text}
+use Rattle.exit_status.specs.Output.{with_text}
 use Rattle.checkout_paths.specs.Prepared.{IsPreparedTo}
-use Rattle.checkout_engine.specs.Report.{report}
+use Rattle.run_report.specs.Rows.{report}
+use Rattle.checkout_engine.specs.Report.{lacks_memory}
 use Rattle.checkout_sources.specs.Sources.{IsPlanned}
 use Rattle.checkout_paths.specs.Talks.{DriverTalk, heard_at, Gave, AreDriverTalks, with_talks}
 use Rattle.checkout_paths.specs.Workers.{starts_of, worker_count, HaveActorsBelow}
@@ -85,26 +88,41 @@ module _ (object : List ℕ → Told) (talks : List DriverTalk) where
 abbrev pub verdicts_in : List (Verdict × Option TreeFile) → List Verdict
 verdicts_in ends = map (λ end. end.0) ends
 
--- Each path of the repository's plan ended, the worktree has the files of these ends, in their order, and no other, and
--- the report has a line for each path, in order, with its verdict. The number is 1 if some path failed. As many blobs,
--- leaves and starters are out as before. There was a talk with each driver of the plan and with no other, which goes by
--- what the spawner told ahead of its command. The history is a complete run over the starts of the plan, with these
--- verdicts, by its drivers and the number of workers that the words and the settings give. Nobody else made an entry.
-pub record IsHeadline (told : RepoTold) (ahead : List ℕ → Starts) (asked : Option ℕ) (old new : Seen) (number : ℕ)
-    : Type 0 where
-  pub plan : Plan
-  pub planned : IsPlanned told plan
+-- Each path of the plan of a run ended, and the worktree has the files of these ends, in their order, and no other. The
+-- plan is the repository's. As many blobs, leaves and starters are out as before. There was a talk with each driver of
+-- the plan and with no other, which goes by what the spawner told ahead of its command. The history is a complete run
+-- over the starts of the plan, with these verdicts, by its drivers and as many workers as are asked for and the settings
+-- give. Nobody else made an entry.
+pub record IsRunHeadline (told : RepoTold) (ahead : List ℕ → Starts) (asked : Option ℕ) (old new : Seen)
+    (run : CheckoutRun) : Type 0 where
+  pub planned : IsPlanned told run.plan
   pub talks : List DriverTalk
   pub ends : List (Verdict × Option TreeFile)
-  pub verdicts : AllEnd told.object talks 0 plan.paths ends
-  pub conversations : AreDriverTalks ahead told.object plan.paths (verdicts_in ends) new.history 0 plan.drivers talks
+  pub verdicts_are : run.verdicts.items ≡ verdicts_in ends
+  pub history_is : run.history.items ≡ new.history
+  pub verdicts : AllEnd told.object talks 0 run.plan.paths ends
+  pub conversations : AreDriverTalks ahead told.object run.plan.paths run.verdicts.items run.history.items 0
+      run.plan.drivers talks
   pub files : Tells new.tree.files (filter_map (λ end. end.1) ends)
-  pub report : new.sink ≡ with_text (report plan.paths (verdicts_in ends)) old.sink
-  pub status : number ≡ (if list_any is_failed (verdicts_in ends) then 1 else 0)
   pub blobs : new.repo.out ≡ old.repo.out
   pub leaves : new.tree.out ≡ old.tree.out
   pub starters : new.spawner ≡ with_talks old.spawner talks
-  pub run : IsRun (starts_of plan.paths) (worker_count asked planned.settings plan.paths) (length plan.drivers)
-      new.history (verdicts_in ends)
-  pub actors : let workers = worker_count asked planned.settings plan.paths in
-      HaveActorsBelow (workers + length plan.drivers) (starts_of plan.paths) workers new.history
+  pub workers_are : run.workers ≡ worker_count asked planned.settings run.plan.paths
+  pub ran : IsRun (starts_of run.plan.paths) run.workers (length run.plan.drivers) run.history.items run.verdicts.items
+  pub actors : HaveActorsBelow (run.workers + length run.plan.drivers) (starts_of run.plan.paths) run.workers
+      run.history.items
+
+-- The headline of a checkout that is done, if memory was left for each path.
+abbrev pub LeavesHeadline : RepoTold → (List ℕ → Starts) → Option ℕ → Seen → Seen → Checkout → Type 0
+LeavesHeadline told ahead asked old new (ends.Done run) =
+    lacks_memory run.verdicts.items ≡ false → IsRunHeadline told ahead asked old new run
+LeavesHeadline told ahead asked old new e = Unit {0}
+
+-- The same of a command that ends with 0 or 1: the report has a line for each path, in order, with its verdict. The
+-- number is 1 if some path failed.
+pub record IsHeadline (told : RepoTold) (ahead : List ℕ → Starts) (asked : Option ℕ) (old new : Seen) (number : ℕ)
+    : Type 0 where
+  pub run : CheckoutRun
+  pub left : IsRunHeadline told ahead asked old new run
+  pub report : new.sink ≡ with_text (report run.plan.paths run.verdicts.items) old.sink
+  pub status : number ≡ (if list_any is_failed run.verdicts.items then 1 else 0)

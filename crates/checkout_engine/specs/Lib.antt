@@ -2,11 +2,11 @@
 pub mod Ends
 pub mod Checkout
 pub mod Said
+pub mod Commands
 pub mod Headline
 pub mod Shown
-pub mod Begun
+pub mod Small
 pub mod Rehearsed
-pub mod Output
 pub mod Report
 pub mod Complete
 pub mod Alike

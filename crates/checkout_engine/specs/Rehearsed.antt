@@ -1,10 +1,9 @@
 -- How the command `rehearse` ends, and what it writes.
-use Rattle.std.specs.Prelude.{◌≡◌, ◌==◌, ◌||◌, ◌≤◌, ℕ, Bool, true, false, not, List, [], ◌∷◌, ◌++◌, length, codes}
+use Rattle.std.specs.Prelude.{◌≡◌, ◌⊎◌, ◌==◌, ◌||◌, ◌≤◌, ℕ, Bool, true, false, not, List, [], ◌∷◌, ◌++◌, length, codes}
 use Rattle.std.specs.Prelude.{count_by, sum_by, Some, None}
 use Rattle.std.specs.List.{list_any}
 use Rattle.std.specs.Fmt.{decimal}
 use Rattle.byte_path.specs.Characters.{line_feed}
-use Rattle.edge_kit.specs.Faults.{Rose}
 use Rattle.edge_kit.specs.MemoryDrivers.{starts_for}
 use Rattle.edge_kit.specs.Seen.{TreeSeen, SinkSeen}
 use Rattle.edge_kit.specs.Starters.{Starts, SpawnerSeen}
@@ -24,16 +23,16 @@ use Rattle.checkout_core.specs.declared.path.Start.{Start}
 use Rattle.writer_pool.specs.Ends.{IsRun}
 use Rattle.checkout_report.specs.Report.{is_written, is_unfiltered, is_failed}
 use Rattle.checkout_engine.specs.declared.end.CheckoutRun.{CheckoutRun}
-use Rattle.checkout_engine.specs.declared.exit_status.ExitStatus.{ExitStatus}
-use Rattle.checkout_engine.specs.declared.exit_status.ExitStatus.TheVariants as status
+use Rattle.exit_status.specs.declared.status.ExitStatus.{ExitStatus}
+use Rattle.exit_status.specs.declared.status.ExitStatus.TheVariants as status
 use Rattle.checkout_sources.specs.declared.stop.Stop.{Stop}
 use Rattle.checkout_sources.specs.declared.stop.Stop.TheVariants as stop
 use Rattle.checkout_engine.specs.Alike.{IsUndisturbed}
-use Rattle.checkout_engine.specs.Begun.{IsSmallStart}
 use Rattle.checkout_engine.specs.Checkout.{IsRunOf}
 use Rattle.checkout_engine.specs.Ends.{Seen, begun, IsCheckedOut, verdicts_of}
-use Rattle.checkout_engine.specs.Output.{IsCut, with_text}
-use Rattle.checkout_engine.specs.Report.{number_of, status_of, lacks_memory}
+use Rattle.exit_status.specs.Said.{IsSilent, Says, Unsaid}
+use Rattle.checkout_engine.specs.Report.{status_of, lacks_memory}
+use Rattle.exit_status.specs.Status.{number_of}
 use Rattle.checkout_paths.specs.Workers.{starts_of, worker_count}
 
 -- the sum of all files' bytes
@@ -119,11 +118,6 @@ pub record IsRehearsedRun (seed paths : ℕ) (starts : List Start) (workers driv
   pub history_is : history ≡ left.history
   pub run : IsRun starts workers drivers history (verdicts_of checkout.outcomes)
 
--- how large the run of a rehearsal can be
-pub record IsSmallRun (starts : List Start) (workers drivers : ℕ) (history : List Event) : Type 0 where
-  pub start : IsSmallStart starts workers drivers
-  pub few_events : length history ≤ 900000
-
 -- What the forms in memory kept of a checkout that something disturbed. If the file of a path could not be written, its
 -- verdict says so.
 abbrev pub is_write_failed : Verdict → Bool
@@ -141,15 +135,12 @@ abbrev pub is_disturbed : List Verdict → List DriverSeen → Bool
 is_disturbed verdicts drivers =
     lacks_memory verdicts || (list_any is_write_failed verdicts || list_any is_driver_failed drivers)
 
--- How a rehearsal ends, by its status. The summary is written whole, or a first part of it if the sink failed. Nothing
--- is written if memory ran out, or if something disturbed the checkout.
+-- How a rehearsal ends, with this status. The summary is said. Or nothing is, since memory ran out, or something disturbed
+-- the checkout.
 abbrev pub Rehearses : ℕ → ℕ → SinkSeen → SinkSeen → ExitStatus → Type 0
-Rehearses seed paths old new status.Done =
-    (text : List ℕ) × IsSummed seed paths text × (new ≡ with_text text old)
-Rehearses seed paths old new status.OutputNotWritten =
-    Rose old.faults new.faults × ((text : List ℕ) × IsSummed seed paths text × IsCut text old new)
-Rehearses seed paths old new status.OutOfMemory = new ≡ old
-Rehearses seed paths old new s = ⊥
+Rehearses seed paths old new s =
+    ((text : List ℕ) × IsSummed seed paths text × Says Unsaid text status.Done old new s)
+    ⊎ IsSilent status.OutOfMemory old new s
 
 -- The same for `run`: the repository, the worktree and the spawner don't change, and nothing is in the history.
 pub record EndsRehearsal (seed paths : ℕ) (old new : Seen) (s : ExitStatus) : Type 0 where

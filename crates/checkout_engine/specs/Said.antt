@@ -1,53 +1,26 @@
--- How a text is said, and what is said of the end of a checkout.
-use Rattle.std.specs.Prelude.{◌≡◌, ◌⊎◌, ℕ, List, Result, Ok, Err}
-use Rattle.edge_kit.specs.Faults.{Rose}
+-- What is said of a plan, and of the end of a checkout.
+use Rattle.std.specs.Prelude.{Result, Ok, Err}
 use Rattle.edge_kit.specs.Seen.{SinkSeen}
-use Rattle.edge_kit.specs.declared.faults.SendFault.{SendFault}
-use Rattle.edge_kit.specs.declared.faults.SendFault.TheVariants as send
+use Rattle.checkout_sources.specs.declared.planned.Planned.{Planned}
 use Rattle.checkout_sources.specs.declared.stop.Refusal.{Refusal}
 use Rattle.checkout_sources.specs.declared.stop.Stop.{Stop}
 use Rattle.checkout_sources.specs.declared.stop.Stop.TheVariants as stop
-use Rattle.checkout_sources.specs.RefusalText.{refusal_line}
+use Rattle.checkout_sources.specs.RefusalText.{refusal_words, refusal_line}
+use Rattle.plan_report.specs.Lines.{plan_lines}
+use Rattle.plan_report.specs.Rows.{plan_rows}
+use Rattle.reports.specs.declared.form.ReportForm.{ReportForm}
+use Rattle.reports.specs.declared.form.ReportForm.TheVariants.{Text}
+use Rattle.reports.specs.Forms.{refusal_row}
+use Rattle.reports.specs.Written.{joined}
+use Rattle.run_report.specs.Rows.{report, run_rows}
 use Rattle.checkout_engine.specs.declared.end.Checkout.{Checkout}
 use Rattle.checkout_engine.specs.declared.end.Checkout.TheVariants as ends
-use Rattle.checkout_engine.specs.declared.exit_status.ExitStatus.{ExitStatus}
-use Rattle.checkout_engine.specs.declared.exit_status.ExitStatus.TheVariants as status
-use Rattle.checkout_engine.specs.Output.{IsCut, IsLineCut, with_text}
-use Rattle.checkout_engine.specs.Report.{report, status_of}
-
--- The whole text was written, or some first part of it. Where the sink didn't fail, that is whole lines.
-abbrev pub WritesLines : {T : Type 0} → List ℕ → SinkSeen → SinkSeen → Result T SendFault → Type 0
-WritesLines text old new (Ok x) = new ≡ with_text text old
-WritesLines text old new (Err send.Failed) = IsCut text old new × Rose old.faults new.faults
-WritesLines text old new (Err send.NoMemory) = IsLineCut text old new
-
--- the status of a text that the sink cut off, and that has this one if it is written whole
-abbrev pub cut_off : ExitStatus → ExitStatus
-cut_off status.OutOfMemory = status.OutOfMemory
-cut_off s = status.OutputNotWritten
-
--- the status after a write, which is this one if the text is written whole
-abbrev pub said : {T : Type 0} → Result T SendFault → ExitStatus → ExitStatus
-said (Ok x) s = s
-said (Err send.Failed) s = cut_off s
-said (Err send.NoMemory) s = status.OutOfMemory
-
--- How a text is said that has this status. It is written whole. Or the sink failed, and a first part of it is written.
--- Or memory ran out, and so much of it is written as may be then.
-abbrev pub Says : (List ℕ → SinkSeen → SinkSeen → Type 0) → List ℕ → ExitStatus → SinkSeen → SinkSeen → ExitStatus
-    → Type 0
-Says Part text s old new end =
-    ((end ≡ s) × (new ≡ with_text text old))
-    ⊎ (((end ≡ cut_off s) × Rose old.faults new.faults × IsCut text old new)
-    ⊎ ((end ≡ status.OutOfMemory) × Part text old new))
-
--- as memory runs out, nothing is written of a text that goes out in one piece
-abbrev pub Unsaid : List ℕ → SinkSeen → SinkSeen → Type 0
-Unsaid text old new = new ≡ old
-
--- an end of which nothing is said
-abbrev pub IsSilent : ExitStatus → SinkSeen → SinkSeen → ExitStatus → Type 0
-IsSilent s old new end = (end ≡ s) × (new ≡ old)
+use Rattle.checkout_engine.specs.declared.end.CheckoutRun.{CheckoutRun}
+use Rattle.exit_status.specs.declared.status.ExitStatus.{ExitStatus}
+use Rattle.exit_status.specs.declared.status.ExitStatus.TheVariants as status
+use Rattle.exit_status.specs.Output.{IsLineCut}
+use Rattle.exit_status.specs.Said.{IsSilent, Says, SaysRows, Unsaid}
+use Rattle.checkout_engine.specs.Report.{status_of}
 
 -- what is said of a refusal
 abbrev pub SaysRefusal : Refusal → SinkSeen → SinkSeen → ExitStatus → Type 0
@@ -59,11 +32,57 @@ SaysStop (stop.Refused r) old new s = SaysRefusal r old new s
 SaysStop stop.ReadFault old new s = IsSilent status.ReadFault old new s
 SaysStop stop.NoMemory old new s = IsSilent status.OutOfMemory old new s
 
+-- what is said of a plan that is to be shown: its lines, or why there is none
+abbrev pub SaysPlan : Result Planned Stop → SinkSeen → SinkSeen → ExitStatus → Type 0
+SaysPlan (Ok planned) old new s = Says Unsaid (plan_lines planned.plan) status.Done old new s
+SaysPlan (Err stop) old new s = SaysStop stop old new s
+
+-- what is said of a run: its report
+abbrev pub SaysRun : CheckoutRun → SinkSeen → SinkSeen → ExitStatus → Type 0
+SaysRun run old new s =
+    Says IsLineCut (report run.plan.paths run.verdicts.items) (status_of run.verdicts.items) old new s
+
 -- what is said of the end of a checkout: the report of its run, or why there is none
 abbrev pub SaysEnd : Checkout → SinkSeen → SinkSeen → ExitStatus → Type 0
-SaysEnd (ends.Done run) old new s =
-    Says IsLineCut (report run.plan.paths run.verdicts.items) (status_of run.verdicts.items) old new s
+SaysEnd (ends.Done run) old new s = SaysRun run old new s
 SaysEnd ends.NotEmpty old new s = IsSilent status.NotEmpty old new s
 SaysEnd (ends.Refused r) old new s = SaysRefusal r old new s
 SaysEnd ends.ReadFault old new s = IsSilent status.ReadFault old new s
 SaysEnd ends.NoMemory old new s = IsSilent status.OutOfMemory old new s
+
+-- what is said of a refusal in a form
+abbrev pub SaysRefusalIn : ReportForm → Refusal → SinkSeen → SinkSeen → ExitStatus → Type 0
+SaysRefusalIn form r old new s = Says Unsaid (refusal_row form (refusal_words r)) status.Refused old new s
+
+-- what is said in a form where the reading of a repository stopped
+abbrev pub SaysStopIn : ReportForm → Stop → SinkSeen → SinkSeen → ExitStatus → Type 0
+SaysStopIn form (stop.Refused r) old new s = SaysRefusalIn form r old new s
+SaysStopIn form stop.ReadFault old new s = IsSilent status.ReadFault old new s
+SaysStopIn form stop.NoMemory old new s = IsSilent status.OutOfMemory old new s
+
+-- what is said in a form of a plan that is to be shown: its rows in one piece, or why there is none
+abbrev pub SaysPlanIn : ReportForm → Result Planned Stop → SinkSeen → SinkSeen → ExitStatus → Type 0
+SaysPlanIn form (Ok planned) old new s = Says Unsaid (joined (plan_rows form planned.plan)) status.Done old new s
+SaysPlanIn form (Err stop) old new s = SaysStopIn form stop old new s
+
+-- what is said of a run in a form: the rows of its report
+abbrev pub SaysRunIn : ReportForm → CheckoutRun → SinkSeen → SinkSeen → ExitStatus → Type 0
+SaysRunIn form run old new s =
+    SaysRows (run_rows form run.plan.paths run.verdicts.items) (status_of run.verdicts.items) old new s
+
+-- what is said in a form of the end of a checkout: the rows of its run, or why there is none
+abbrev pub SaysEndIn : ReportForm → Checkout → SinkSeen → SinkSeen → ExitStatus → Type 0
+SaysEndIn form (ends.Done run) old new s = SaysRunIn form run old new s
+SaysEndIn form ends.NotEmpty old new s = IsSilent status.NotEmpty old new s
+SaysEndIn form (ends.Refused r) old new s = SaysRefusalIn form r old new s
+SaysEndIn form ends.ReadFault old new s = IsSilent status.ReadFault old new s
+SaysEndIn form ends.NoMemory old new s = IsSilent status.OutOfMemory old new s
+
+-- in the form of a text, the plan's lines are said
+pub record PlansSayText : Type 0 where
+  pub plan : (planned : Result Planned Stop) (old new : SinkSeen) (s : ExitStatus)
+      → SaysPlanIn Text planned old new s → SaysPlan planned old new s
+
+-- in the form of a text, the report is said line by line
+pub record EndsSayText : Type 0 where
+  pub end : (e : Checkout) (old new : SinkSeen) (s : ExitStatus) → SaysEndIn Text e old new s → SaysEnd e old new s

@@ -10,7 +10,8 @@ use Rattle.checkout_core.specs.declared.verdict.FailCause.TheVariants as fail
 use Rattle.checkout_engine.specs.Alike.{RepoTellsAll, DifferInWorkers}
 use Rattle.checkout_engine.specs.Ends.{Seen, IsCheckedOut, verdicts_of}
 use Rattle.checkout_paths.specs.Outcome.{Outcome}
-use Rattle.checkout_engine.specs.Report.{lacks_memory, report}
+use Rattle.run_report.specs.Rows.{report}
+use Rattle.checkout_engine.specs.Report.{lacks_memory}
 use Rattle.checkout_paths.specs.Talks.{DriverTalk, IsTalkBy}
 
 -- The same came of a driver's starts in both: the same starts failed, and the sessions are equal. What a session sent

@@ -1,8 +1,11 @@
 //! How a checkout ends, and the run that it leaves.
+ghost use Rattle.std.specs.Prelude.{◌≡◌};
+ghost use Rattle.checkout_engine.specs.Checkout.{events_of};
 
 use checkout_core::{Event, Verdict};
 use checkout_plan::Plan;
 use checkout_sources::Refusal;
+use std::alloc::Global;
 
 /// The run of a checkout over all paths of a plan.
 #[derive(Drop)]
@@ -29,4 +32,14 @@ pub enum Checkout {
     ReadFault,
     /// Memory ran out before the paths were done.
     NoMemory,
+}
+
+/// The events of the run that a checkout leaves, if there is one and it leaves one.
+pub(crate) fn events_of(alloc: Global, end: Option<Checkout>) -> Vec<Event>
+    ensures { result.items ≡ events_of end }
+{
+    match end {
+        Some(Checkout::Done(run)) => run.history,
+        _ => Vec::new(alloc),
+    }
 }

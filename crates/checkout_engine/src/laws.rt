@@ -4,6 +4,7 @@ ghost use Rattle.checkout_engine.specs.Alike.{ActorsAreNumbered, OnePlan, TalksD
 ghost use Rattle.checkout_engine.specs.Given.{WrittenIsGiven};
 ghost use Rattle.checkout_engine.specs.PlannedPaths.{PlannedPathsAreSized};
 ghost use Rattle.checkout_engine.specs.Rehearsed.{RehearsalsAreAlike};
+ghost use Rattle.checkout_engine.specs.Said.{PlansSayText, EndsSayText};
 ghost use Rattle.checkout_engine.specs.SameFaults.{SameFaultsChangeNothing};
 
 use checkout_paths::drivers_are_in_use;
@@ -12,6 +13,22 @@ use driver_line::{
     a_path_gets_one_content, equal_outputs_give_equal_talks, equal_sessions_give_equal_talks,
 };
 use git_index::{one_reading, paths_are_ordered};
+use plan_report::text_is_plan;
+use run_report::first_rows_are_lines;
+
+/// In the form of a text, the plan's lines are said.
+pub(crate) fn plans_say_text()
+    ensures { PlansSayText }
+{
+    text_is_plan();
+}
+
+/// In the form of a text, the report is said line by line.
+pub(crate) fn ends_say_text()
+    ensures { EndsSayText }
+{
+    first_rows_are_lines();
+}
 
 /// The number of workers changes nothing: two checkouts of one repository with the same drivers, in which no leaf and
 /// no link failed and memory was left for each path, have the same plan, verdicts, files and report, with any two
@@ -61,7 +78,7 @@ pub fn memory_tells_all()
     ensures { MemoryTellsAll }
 {}
 
-/// A repository that tells all that it holds has one plan, so a second look at it shows the plan of its checkout.
+/// A repository that tells all that it holds has one plan, so the command `plan` shows the plan of its checkout.
 pub fn a_told_repository_has_one_plan()
     ensures { OnePlan }
 {

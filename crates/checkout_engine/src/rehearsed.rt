@@ -1,20 +1,20 @@
 //! The command `rehearse`: a checkout in memory, of a repository and drivers that two numbers make, and its summary.
-ghost use Rattle.std.specs.Prelude.{◌≡◌, ◌≤◌, IfOk, Some, string_bytes};
+ghost use Rattle.std.specs.Prelude.{◌≡◌, ◌≤◌, IfOk, Some, length, string_bytes};
 ghost use Rattle.std.specs.List.{list_any};
 ghost use Rattle.checkout_engine.specs.Complete.{IsValid};
 ghost use Rattle.checkout_sources.specs.Reading.{IsRead};
 ghost use Rattle.checkout_engine.specs.Rehearsed.{is_memory, bytes_of, first_words, last_words, summary, new_memory};
 ghost use Rattle.checkout_engine.specs.Rehearsed.{is_write_failed, is_link_failed, is_driver_failed, is_disturbed};
 ghost use Rattle.checkout_engine.specs.Rehearsed.{IsTried, IsTriedWell, IsRehearsed, IsSummed, Rehearses};
-ghost use Rattle.checkout_engine.specs.Rehearsed.{IsRehearsedRun, IsSmallRun};
+ghost use Rattle.checkout_engine.specs.Rehearsed.{IsRehearsedRun};
+ghost use Rattle.checkout_engine.specs.Small.{IsSmall};
+ghost use Rattle.checkout_paths.specs.Workers.{starts_of};
 
 use crate::end::CheckoutRun;
-use crate::exit_status::ExitStatus;
-use crate::output::say;
 use crate::report::{lacks_memory, status_of};
 use crate::steps::{PacedPlan, write_paths};
-use checkout_core::{Event, FailCause, Start, Verdict};
-use checkout_paths::{Means, drivers_are_in_use, starts_of};
+use checkout_core::{FailCause, Verdict};
+use checkout_paths::{Means, drivers_are_in_use};
 use checkout_plan::closed_paths_have_causes;
 use checkout_report::{failed_count, unfiltered_count, written_count};
 use checkout_sources::{Planned, Stop, read_plan};
@@ -23,22 +23,12 @@ use edge_kit::{
     DriverSeen, Gate, MemoryRepo, MemorySpawner, MemoryTree, Repo, Sink, Spawner, StartOutcome,
     StartSeen, TreeFile, Worktree,
 };
+use exit_status::{ExitStatus, say};
 use git_index::{index_has_no_fault, one_reading, paths_are_ordered};
 use rehearsal::{Rehearsed, attributes_are_right, files_have_an_index, rehearse};
 use std::alloc::{AllocError, Global};
 use std::sync::Wait;
 use std::thread::Threads;
-
-/// The run of a rehearsal, as a journal tells it.
-#[derive(Drop)]
-pub struct RehearsedRun {
-    /// How each path begins.
-    pub starts: Vec<Start>,
-    pub workers: u32,
-    pub drivers: u32,
-    /// All that happened, in order.
-    pub history: Vec<Event>,
-}
 
 /// The sum of all files' bytes.
 fn bytes_of(files: &[TreeFile]) -> u128
@@ -234,34 +224,24 @@ fn rehearsal_summary<G: Gate, H: Threads + Wait + Sync>(
     Ok(text)
 }
 
-/// Rehearses so many paths, as the command `rehearse` does, and hands on the run for a journal.
+/// Rehearses so many paths, as the command `rehearse` does, and hands on the run.
 pub fn rehearsed_run<G: Gate, H: Threads + Wait + Sync>(
-    rt: &H,
-    alloc: Global,
+    means: &Means<'_, G, H>,
     seed: u64,
     paths: u32,
-    gate: &G,
-) -> Result<RehearsedRun, AllocError>
+) -> Result<CheckoutRun, AllocError>
     requires { paths ≤ 99999 }
     // It is that of a checkout in memory that nothing disturbed.
-    ensures rehearsed { IfOk result (λ r.
-        IsRehearsedRun seed paths r.starts.items r.workers r.drivers r.history.items) }
+    ensures rehearsed { IfOk result (λ run. IsRehearsedRun seed paths
+        (starts_of run.plan.paths) run.workers (length run.plan.drivers) run.history.items) }
     // It is small enough for a journal.
-    ensures small { IfOk result (λ r. IsSmallRun r.starts.items r.workers r.drivers r.history.items) }
+    ensures small { IfOk result IsSmall }
 {
     closed_paths_have_causes();
     drivers_are_in_use();
     laws::a_history_is_short();
-    let means = Means { rt, alloc, gate };
-    let (run, _) = rehearsed(&means, seed, paths)?;
-    let starts = starts_of(alloc, run.plan.paths.as_slice())?;
-    let drivers = run.plan.drivers.as_slice().len();
-    Ok(RehearsedRun {
-        starts,
-        workers: run.workers,
-        drivers: drivers as u32,
-        history: run.history,
-    })
+    let (run, _) = rehearsed(means, seed, paths)?;
+    Ok(run)
 }
 
 /// The command `rehearse`: rehearses so many paths, and writes the summary.

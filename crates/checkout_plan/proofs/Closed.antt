@@ -1,5 +1,5 @@
 -- Why a plan closes a path.
-use Rattle.std.proofs.Common.{ℕ, suc, Bool, true, false, ◌==◌, if◌then◌else◌, List, [], ◌∷◌, map, Option, Some, None, Result, Ok, Err}
+use Rattle.std.proofs.Common.{ℕ, suc, Bool, true, false, ◌==◌, if◌then◌else◌, List, [], ◌∷◌, map, codes, Option, Some, None, Result, Ok, Err}
 use Rattle.std.specs.List.{AllByRecursion}
 use Rattle.std.specs.Str.{bytes_eq, is_utf8}
 use Rattle.git_index.specs.declared.entry.Entry.{Entry}
@@ -9,10 +9,12 @@ use Rattle.attr_line.specs.declared.state.AttrState.{AttrState}
 use Rattle.attr_line.specs.declared.state.AttrState.TheVariants as state
 use Rattle.attr_stack.specs.declared.files.OuterFiles.{OuterFiles}
 use Rattle.attr_stack.specs.declared.files.AttrFiles.{AttrFiles}
+use Rattle.attr_stack.specs.Decided.{state_of}
 use Rattle.settings_view.specs.declared.view.Driver.{Driver}
 use Rattle.settings_view.specs.declared.view.Settings.{Settings}
 use Rattle.tree_encoding.specs.declared.encoding.UnknownEncoding.{UnknownEncoding}
 use Rattle.convert_plan.specs.declared.conversion.Conversion.{Conversion}
+use Rattle.convert_plan.specs.Conversion.{conversion_of}
 use Rattle.checkout_core.specs.declared.verdict.Verdict.TheVariants as verdict
 use Rattle.checkout_core.specs.declared.verdict.FailCause.TheVariants as fail
 use Rattle.checkout_core.specs.declared.verdict.SkipCause.TheVariants as skip
@@ -21,7 +23,7 @@ use Rattle.checkout_core.specs.declared.path.Start.TheVariants as start
 use Rattle.checkout_plan.proofs.LeftOut.{left_out_by}
 use Rattle.checkout_plan.specs.AttributeFiles.{attribute_files}
 use Rattle.checkout_plan.specs.declared.path_plan.PathPlan.{PathPlan}
-use Rattle.checkout_plan.specs.Paths.{no_conversion, path_with, closed, start_by, start_at, start_named, filter_start, converted, file_path, text_path, link_path, path_of_mode, asked_path, first_entries, asked_paths, start_among, path_among, plan_of, HasCause}
+use Rattle.checkout_plan.specs.Paths.{conversion_names, no_conversion, path_with, closed, start_by, start_at, start_named, filter_start, converted, file_path, text_path, link_path, path_of_mode, asked_path, first_entries, asked_paths, start_among, path_among, plan_of, HasCause}
 
 start_by-cause : (place : ℕ) (process : Option (List ℕ)) (required : Bool) → HasCause (start_by place process required)
 start_by-cause place (Some process) required = tt
@@ -42,16 +44,14 @@ filter_start-cause ds state.Unset = tt
 filter_start-cause ds state.Unspecified = tt
 
 converted-cause : (e : Entry) (begin : Start) (c : Result Conversion UnknownEncoding) → HasCause begin → HasCause (converted e begin c).start
-converted-cause e (start.Done v) (Ok c) cause = cause
-converted-cause e start.Pool (Ok c) cause = tt
-converted-cause e (start.Desk place required) (Ok c) cause = tt
-converted-cause e (start.Done v) (Err u) cause = tt
-converted-cause e start.Pool (Err u) cause = tt
-converted-cause e (start.Desk place required) (Err u) cause = tt
+converted-cause e begin (Ok c) cause = cause
+converted-cause e begin (Err u) cause = tt
 
 text_path-cause : (files : AttrFiles) (settings : Settings) (e : Entry) → HasCause (text_path files settings e).start
 text_path-cause files settings e = elim (is_utf8 e.path) as (λ t. HasCause (if t then file_path files settings e else closed e (verdict.Failed fail.NameNotText)).start) [
-  | true ↦ converted-cause e _ _ (filter_start-cause settings.drivers _)
+  | true ↦
+      converted-cause e (filter_start settings.drivers (state_of files e.path (codes "filter"))) (conversion_of (map (state_of files e.path) conversion_names) settings.autocrlf settings.eol)
+      (filter_start-cause settings.drivers (state_of files e.path (codes "filter")))
   | false ↦ tt
 ]
 

@@ -2,4 +2,3 @@ pub mod AttributeFiles
 pub mod Paths
 pub mod Making
 pub mod Seen
-pub mod WithFiles

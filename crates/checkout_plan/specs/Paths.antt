@@ -1,6 +1,6 @@
 -- What becomes of each path of an index.
 use Rattle.std.specs.Prelude.{ℕ, zero, suc, Bool, true, false, ◌==◌, List, [], ◌∷◌, map, codes}
-use Rattle.std.specs.Prelude.{Option, Some, None, Result, Ok, Err, if◌then◌else◌}
+use Rattle.std.specs.Prelude.{◌≡◌, slice_get, Option, Some, None, Result, Ok, Err, if◌then◌else◌}
 use Rattle.std.specs.List.{list_any, AllByRecursion}
 use Rattle.std.specs.Str.{bytes_eq, is_utf8}
 use Rattle.edge_kit.specs.declared.leaf_state.Mark.{Mark}
@@ -13,7 +13,7 @@ use Rattle.attr_line.specs.declared.state.AttrState.TheVariants as state
 use Rattle.attr_stack.specs.declared.files.OuterFiles.{OuterFiles}
 use Rattle.attr_stack.specs.declared.files.AttrFiles.{AttrFiles}
 use Rattle.attr_stack.specs.Decided.{state_of}
-use Rattle.eol_convert.specs.declared.setting.LineEnds.TheVariants.{Keep}
+use Rattle.eol_convert.specs.declared.action.Action.TheVariants.{Binary}
 use Rattle.tree_encoding.specs.declared.encoding.UnknownEncoding.{UnknownEncoding}
 use Rattle.convert_plan.specs.declared.conversion.Conversion.{Conversion}
 use Rattle.convert_plan.specs.Conversion.{conversion_of}
@@ -38,7 +38,7 @@ mark_of mode.Gitlink = mark.Plain
 
 -- nothing is done to a content
 abbrev pub no_conversion : Conversion
-no_conversion = record { ident = false; ends = Keep; encoding = None }
+no_conversion = record { ident = false; action = Binary; encoding = None }
 
 abbrev pub path_with : Entry → Conversion → Start → PathPlan
 path_with e conversion start = record {
@@ -47,6 +47,7 @@ path_with e conversion start = record {
   mark = mark_of e.mode;
   conversion = conversion;
   start = start;
+  driver = None;
 }
 
 -- a path whose verdict stands before anything is read
@@ -77,18 +78,41 @@ abbrev pub filter_start : List Driver → AttrState → Start
 filter_start drivers (state.Value name) = start_named 0 drivers name
 filter_start drivers s = start.Pool
 
+-- the place of the driver with that name, from that place on
+abbrev pub place_named : ℕ → List Driver → List ℕ → Option ℕ
+place_named place [] name = None
+place_named place (d ∷ ds) name = if bytes_eq d.name name then Some place else place_named (suc place) ds name
+
+-- the place of a path's driver among those of the settings, by the state of its `filter`
+abbrev pub filter_place : List Driver → AttrState → Option ℕ
+filter_place drivers (state.Value name) = place_named 0 drivers name
+filter_place drivers s = None
+
+-- how a path begins whose driver stands at that place, if it has one
+abbrev pub start_in : ℕ → Option Driver → Start
+start_in place None = start.Pool
+start_in place (Some d) = start_at place d
+
+abbrev pub start_of : List Driver → Option ℕ → Start
+start_of drivers None = start.Pool
+start_of drivers (Some place) = start_in place (slice_get drivers place)
+
+-- How a path begins by its `filter` is how it begins by the place of its driver.
+abbrev pub PlacesStart : Type 0
+PlacesStart = (drivers : List Driver) (s : AttrState)
+    → start_of drivers (filter_place drivers s) ≡ filter_start drivers s
+
 -- an unknown encoding stands before a filter that is missing
 abbrev pub converted : Entry → Start → Result Conversion UnknownEncoding → PathPlan
+converted e begin (Ok conversion) = path_with e conversion begin
 converted e begin (Err unknown) = closed e (verdict.Failed fail.UnknownEncoding)
-converted e (start.Done v) (Ok conversion) = closed e v
-converted e start.Pool (Ok conversion) = path_with e conversion start.Pool
-converted e (start.Desk place required) (Ok conversion) = path_with e conversion (start.Desk place required)
 
 -- a file by the states of its attributes
 abbrev pub file_path : AttrFiles → Settings → Entry → PathPlan
-file_path files settings e =
-    converted e (filter_start settings.drivers (state_of files e.path (codes "filter")))
-    (conversion_of (map (state_of files e.path) conversion_names) settings.autocrlf settings.eol)
+file_path files settings e = record
+    (converted e (filter_start settings.drivers (state_of files e.path (codes "filter")))
+    (conversion_of (map (state_of files e.path) conversion_names) settings.autocrlf settings.eol))
+    { driver = filter_place settings.drivers (state_of files e.path (codes "filter")) }
 
 -- a path that isn't UTF-8 has no file
 abbrev pub text_path : AttrFiles → Settings → Entry → PathPlan

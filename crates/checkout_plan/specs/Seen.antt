@@ -4,7 +4,6 @@ use Rattle.std.specs.Prelude.{length, map, fold, take, codes, slice_index_or, Op
 use Rattle.std.specs.Global.{Vec}
 use Rattle.std.specs.Borrow.{Bor}
 use Rattle.std.specs.BTreeMap.{BTreeMap, get_by}
-use Rattle.std.specs.Option.{unwrap_or}
 use Rattle.std.specs.Ordering.{nat_cmp}
 use Rattle.std.specs.Cmp.Lexicographic.{slice_cmp}
 use Rattle.edge_kit.specs.Told.{Told, MayFail}
@@ -20,7 +19,6 @@ use Rattle.attr_stack.specs.declared.files.FileAt.{FileAt}
 use Rattle.attr_stack.specs.declared.files.AttrFiles.{AttrFiles}
 use Rattle.convert_plan.specs.Conversion.{conversion_of}
 use Rattle.checkout_core.specs.declared.path.Start.{Start}
-use Rattle.checkout_core.specs.declared.path.Start.TheVariants.{Pool}
 use Rattle.checkout_core.specs.declared.path.Start.TheVariants as start
 use Rattle.settings_view.specs.declared.view.Driver.{Driver}
 use Rattle.settings_view.specs.declared.view.Settings.{Settings}
@@ -31,7 +29,7 @@ use Rattle.checkout_plan.specs.declared.fault.PlanFault.{PlanFault}
 use Rattle.checkout_plan.specs.declared.fault.PlanFault.TheVariants as fault
 use Rattle.checkout_plan.specs.AttributeFiles.{with_file, files_at, is_attribute_file}
 use Rattle.checkout_plan.specs.AttributeFiles.{attribute_entries, attribute_files}
-use Rattle.checkout_plan.specs.Paths.{conversion_names, start_named, filter_start, converted}
+use Rattle.checkout_plan.specs.Paths.{conversion_names, place_named, filter_place, filter_start, converted}
 use Rattle.checkout_plan.specs.Paths.{is_used, number_at}
 use Rattle.checkout_plan.specs.Making.{FitsKind, object_kind, HaveContents, max_attributes, max_drivers}
 use Rattle.checkout_plan.specs.Making.{blobs_of, told_number}
@@ -110,16 +108,16 @@ pub record ReadsAll (object : List ℕ → Told) (es : List Entry) (outer : Oute
   pub read : HaveContents object es contents
   pub is : files ≡ attribute_files outer es contents
 
--- starts of paths by the names of drivers
-abbrev pub Starts : Type 0
-Starts = BTreeMap (Bor (List ℕ)) Start
+-- places of drivers by their names
+abbrev pub Places : Type 0
+Places = BTreeMap (Bor (List ℕ)) ℕ
 
-abbrev pub start_in : Starts → List ℕ → Start
-start_in starts name = unwrap_or (get_by (λ k. slice_cmp nat_cmp name k.now) starts) Pool
+abbrev pub place_in : Places → List ℕ → Option ℕ
+place_in places name = get_by (λ k. slice_cmp nat_cmp name k.now) places
 
--- a path of each name begins as these drivers say
-abbrev pub AreStarts : Starts → List Driver → Type 0
-AreStarts starts drivers = (name : List ℕ) → start_in starts name ≡ start_named 0 drivers name
+-- each name has the place that these drivers give it
+abbrev pub ArePlaces : Places → List Driver → Type 0
+ArePlaces places drivers = (name : List ℕ) → place_in places name ≡ place_named 0 drivers name
 
 -- the attributes that are looked up for a path: those of a conversion, and `filter`
 abbrev pub asked_names : List (List ℕ)
@@ -127,14 +125,15 @@ asked_names = conversion_names ++ codes "filter" ∷ []
 
 -- a file by the states of these
 abbrev pub path_by : Settings → Entry → List AttrState → PathPlan
-path_by settings e states =
-    converted e (filter_start settings.drivers (slice_index_or states 5 Unspecified))
-    (conversion_of (take 5 states) settings.autocrlf settings.eol)
+path_by settings e states = record
+    (converted e (filter_start settings.drivers (slice_index_or states 5 Unspecified))
+    (conversion_of (take 5 states) settings.autocrlf settings.eol))
+    { driver = filter_place settings.drivers (slice_index_or states 5 Unspecified) }
 
--- it has the names of these attributes, and knows how the paths of the settings' drivers begin
+-- it has the names of these attributes, and knows the places of the settings' drivers
 pub record IsReady (asking : Asking) : Type 0 where
   pub names : asking.names.items ≡ asked_names
-  pub starts : AreStarts asking.starts asking.settings.now.drivers
+  pub places : ArePlaces asking.places asking.settings.now.drivers
 
 -- which of the drivers some path asks for, by their places
 abbrev pub AreUsed : List Bool → List PathPlan → Type 0

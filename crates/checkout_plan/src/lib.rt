@@ -13,5 +13,6 @@ mod starts;
 
 pub use attribute_files::object_content;
 pub use fault::{PlanFault, object_kind};
-pub use made_plan::{PlanWithFiles, closed_paths_have_causes, make_plan, make_plan_with_files};
+pub use made_plan::{closed_paths_have_causes, make_plan};
 pub use path_plan::{PathPlan, Plan};
+pub use starts::places_start;

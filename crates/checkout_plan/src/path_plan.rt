@@ -10,10 +10,13 @@ pub struct PathPlan {
     pub path: Bytes,
     pub object: [u8; 20],
     pub mark: Mark,
-    /// What is done to the content. A link and a path that is closed by the plan have none.
+    /// What is done to the content, on both ways. A link has none, and neither has a path that its entry, its name or its
+    /// encoding closes.
     pub conversion: Conversion,
     /// Who takes the path. A driver is numbered by its place in the plan.
     pub start: Start,
+    /// The place of its filter driver among those of the settings, if it has one there.
+    pub driver: Option<u32>,
 }
 
 /// One path for each distinct path of the index, in order.

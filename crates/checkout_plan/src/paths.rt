@@ -4,17 +4,17 @@ ghost use Rattle.checkout_plan.specs.Paths.{mark_of, no_conversion, path_with, c
 ghost use Rattle.checkout_plan.specs.Paths.{file_path, text_path, link_path, path_of_mode};
 ghost use Rattle.checkout_plan.specs.Paths.{asked_path, asked_paths};
 ghost use Rattle.std.specs.Str.{is_utf8};
-ghost use Rattle.checkout_plan.specs.Seen.{AreStarts, IsReady, asked_names, path_by};
+ghost use Rattle.checkout_plan.specs.Seen.{ArePlaces, IsReady, asked_names, path_by};
 
 use crate::path_plan::PathPlan;
-use crate::starts::{Starts, filter_start, starts_of};
+use crate::starts::{Places, filter_place, places_of, start_of};
 use attr_line::AttrState;
 use attr_stack::{AttrFiles, AttrStack};
 use byte_path::Bytes;
 use checkout_core::{FailCause, SkipCause, Start, Verdict};
 use convert_plan::{Conversion, conversion_of};
 use edge_kit::Mark;
-use eol_convert::LineEnds;
+use eol_convert::Action;
 use git_index::{Entry, Mode};
 use settings_view::Settings;
 use std::alloc::{AllocError, Global};
@@ -23,7 +23,7 @@ use tree_encoding::UnknownEncoding;
 /// Nothing is done to a content.
 const NO_CONVERSION: Conversion = Conversion {
     ident: false,
-    ends: LineEnds::Keep,
+    action: Action::Binary,
     encoding: None,
 };
 
@@ -53,6 +53,7 @@ fn path_with(
         mark: mark_of(entry.mode),
         conversion,
         start,
+        driver: None,
     })
 }
 
@@ -72,12 +73,11 @@ fn converted(
 ) -> Result<PathPlan, AllocError>
     ensures { IfOk result (λ path. path ≡ converted entry.now start conversion) }
 {
-    match (conversion, start) {
-        (Err(UnknownEncoding), _) => {
+    match conversion {
+        Ok(conversion) => path_with(alloc, entry, conversion, start),
+        Err(UnknownEncoding) => {
             closed(alloc, entry, Verdict::Failed(FailCause::UnknownEncoding))
         }
-        (Ok(_), Start::Done(verdict)) => closed(alloc, entry, verdict),
-        (Ok(conversion), start) => path_with(alloc, entry, conversion, start),
     }
 }
 
@@ -122,25 +122,28 @@ struct Asking<'a> {
     settings: &'a Settings,
     /// The attributes, that of the filter last.
     names: Vec<Bytes>,
-    starts: Starts<'a>,
+    places: Places<'a>,
 }
 
 /// A file by the states of its attributes.
 fn path_by(
     alloc: Global,
     settings: &Settings,
-    starts: &Starts<'_>,
+    places: &Places<'_>,
     entry: &Entry,
     states: &[AttrState],
 ) -> Result<PathPlan, AllocError>
-    requires starts { AreStarts starts.now settings.now.drivers }
+    requires places { ArePlaces places.now settings.now.drivers }
     requires six { length states.now ≡ 6 }
     ensures { IfOk result (λ path. path ≡ path_by settings.now entry.now states.now) }
 {
     let (five, _) = states.split_at(5);
-    let start = filter_start(starts, &states[5]);
+    let driver = filter_place(places, &states[5]);
+    let start = start_of(settings.drivers.as_slice(), driver);
     let conversion = conversion_of(five, settings.autocrlf, settings.eol);
-    converted(alloc, entry, start, conversion)
+    let mut path = converted(alloc, entry, start, conversion)?;
+    path.driver = driver;
+    Ok(path)
 }
 
 impl<'a> Asking<'a> {
@@ -157,7 +160,7 @@ impl<'a> Asking<'a> {
             stack: AttrStack::begin(alloc, files)?,
             settings,
             names: asked_names(alloc)?,
-            starts: starts_of(alloc, settings.drivers.as_slice())?,
+            places: places_of(alloc, settings.drivers.as_slice())?,
         })
     }
 
@@ -169,7 +172,7 @@ impl<'a> Asking<'a> {
     {
         let path = entry.path.as_slice();
         let states = self.stack.states(path, &self.names)?;
-        path_by(alloc, self.settings, &self.starts, entry, &states)
+        path_by(alloc, self.settings, &self.places, entry, &states)
     }
 
     /// A path that isn't UTF-8 has no file.
@@ -206,8 +209,7 @@ impl<'a> Asking<'a> {
     /// One path for each distinct path of an index, in order.
     fn asked_paths(&mut self, alloc: Global, entries: &[Entry]) -> Result<Vec<PathPlan>, AllocError>
         requires { IsReady self.old }
-        ensures kept { self.new ≡ self.old }
-        ensures paths { IfOk result (λ paths. paths.items
+        ensures { IfOk result (λ paths. paths.items
             ≡ asked_paths self.old.stack self.old.settings.now entries.now) }
     {
         let mut paths = Vec::new(alloc);
@@ -223,25 +225,15 @@ impl<'a> Asking<'a> {
     }
 }
 
-/// The paths of an index, and the attribute files that decide about them.
-#[derive(Drop)]
-pub struct AskedPaths {
-    pub paths: Vec<PathPlan>,
-    pub files: AttrStack,
-}
-
 /// The paths of an index, if these attribute files reach them.
 pub fn asked_paths(
     alloc: Global,
     files: AttrFiles,
     settings: &Settings,
     entries: &[Entry],
-) -> Result<AskedPaths, AllocError>
-    ensures paths { IfOk result (λ asked. asked.paths.items ≡ asked_paths files settings.now entries.now) }
-    ensures files { IfOk result (λ asked. asked.files ≡ files) }
+) -> Result<Vec<PathPlan>, AllocError>
+    ensures { IfOk result (λ paths. paths.items ≡ asked_paths files settings.now entries.now) }
 {
     let mut asking = Asking::new(alloc, files, settings)?;
-    let paths = asking.asked_paths(alloc, entries)?;
-    let Asking { stack: files, .. } = asking;
-    Ok(AskedPaths { paths, files })
+    asking.asked_paths(alloc, entries)
 }

@@ -1,8 +1,8 @@
-//! How a path begins by its filter driver (gitattributes(5), "filter").
+//! The filter driver of a path, and how it makes the path begin (gitattributes(5), "filter").
 ghost use Rattle.std.specs.Prelude.{◌≡◌, IfOk, List};
 ghost use Rattle.settings_view.specs.declared.view.Driver.{Driver};
-ghost use Rattle.checkout_plan.specs.Paths.{start_at, filter_start};
-ghost use Rattle.checkout_plan.specs.Seen.{AreStarts};
+ghost use Rattle.checkout_plan.specs.Paths.{start_at, start_of, filter_place, PlacesStart};
+ghost use Rattle.checkout_plan.specs.Seen.{ArePlaces};
 
 use crate::number::number_of;
 use attr_line::AttrState;
@@ -11,8 +11,8 @@ use settings_view::Driver;
 use std::alloc::{AllocError, Global};
 use std::collections::BTreeMap;
 
-/// How a path begins by the name of its driver. A driver is numbered by its place in the settings.
-pub type Starts<'a> = BTreeMap<&'a [u8], Start>;
+/// The places of drivers in the settings, by their names.
+pub type Places<'a> = BTreeMap<&'a [u8], u32>;
 
 /// How a path of that driver begins.
 fn start_at(place: u32, driver: &Driver) -> Start
@@ -28,26 +28,45 @@ fn start_at(place: u32, driver: &Driver) -> Start
     }
 }
 
-/// How paths begin by the drivers of the settings. Of two drivers with one name the first counts.
-pub fn starts_of(alloc: Global, drivers: &[Driver]) -> Result<Starts<'_>, AllocError>
-    ensures { IfOk result (λ starts. AreStarts starts drivers.now) }
+/// How a path begins whose driver stands at that place. Without a driver any actor takes it.
+pub fn start_of(drivers: &[Driver], place: Option<u32>) -> Start
+    ensures { result ≡ start_of drivers.now place }
 {
-    let mut starts = BTreeMap::new(alloc);
+    let Some(place) = place else {
+        return Start::Pool;
+    };
+    match drivers.get(place as usize) {
+        Some(driver) => start_at(place, driver),
+        None => Start::Pool,
+    }
+}
+
+/// The places of the settings' drivers. Of two drivers with one name the first counts.
+pub fn places_of(alloc: Global, drivers: &[Driver]) -> Result<Places<'_>, AllocError>
+    ensures { IfOk result (λ places. ArePlaces places drivers.now) }
+{
+    let mut places = BTreeMap::new(alloc);
     let mut rest = drivers;
     while let Some((driver, before)) = rest.split_last() {
         let place = number_of(before.len())?;
-        starts.insert(driver.name.as_slice(), start_at(place, driver))?;
+        places.insert(driver.name.as_slice(), place)?;
         rest = before;
     }
-    Ok(starts)
+    Ok(places)
 }
 
-/// How a path begins by the state of its `filter`.
-pub fn filter_start(starts: &Starts<'_>, filter: &AttrState) -> Start
-    ensures { (drivers : List Driver) → AreStarts starts.now drivers → result ≡ filter_start drivers filter.now }
+/// The place of a path's driver, by the state of the path's `filter`.
+pub fn filter_place(places: &Places<'_>, filter: &AttrState) -> Option<u32>
+    ensures { (drivers : List Driver) → ArePlaces places.now drivers → result ≡ filter_place drivers filter.now }
 {
     match filter {
-        AttrState::Value(name) => starts.get(name.as_slice()).copied().unwrap_or(Start::Pool),
-        AttrState::Set | AttrState::Unset | AttrState::Unspecified => Start::Pool,
+        AttrState::Value(name) => places.get(name.as_slice()).copied(),
+        AttrState::Set | AttrState::Unset | AttrState::Unspecified => None,
     }
 }
+
+/// The law that a path begins by the place of its driver: how it begins by its `filter` is how it begins whose driver
+/// stands there. It does nothing.
+pub fn places_start()
+    ensures { PlacesStart }
+{}

@@ -3,8 +3,8 @@ use Rattle.std.specs.Prelude.{ℕ, ◌==◌, if◌then◌else◌, List, [], code
 use Rattle.std.specs.Prelude.{string_bytes, String}
 use Rattle.std.specs.Option.{unwrap_or}
 use Rattle.std.specs.declared.alloc.Global.{Global}
-use Rattle.checkout_engine.specs.declared.exit_status.ExitStatus.TheVariants.{Usage}
-use Rattle.checkout_engine.specs.Report.{number_of}
+use Rattle.exit_status.specs.declared.status.ExitStatus.TheVariants.{Usage}
+use Rattle.exit_status.specs.Status.{number_of}
 use Rattle.program_kit.specs.Words.{message_of}
 
 -- the word with this number, or the empty text if it is missing

@@ -14,15 +14,16 @@ mod journal_place;
 use crate::checkin::checkin_words;
 use crate::journal_place::{JournalPlace, journal_place};
 use checkin_engine::is_checkin;
-use checkout_core::Event;
-use checkout_engine::{ExitStatus, run};
+use checkout_engine::run_words;
+use checkout_paths::Means;
 use edge_adapters::{
     FolderBlob, FolderRepo, FolderTree, OutputSink, ProcessSpawner, hold_standard,
 };
 use edge_kit::NoGate;
+use exit_status::ExitStatus;
 use journal_run::{is_journal, journal_run};
 use one_shot::OnceSpawner;
-use program_kit::{EndedCheckout, message_of, words_of};
+use program_kit::{message_of, words_of};
 use std::alloc::AllocError;
 use std::env::args;
 use std::io::writer;
@@ -61,34 +62,32 @@ fn folders_of(rt: HostRuntime, words: &[String]) -> Result<(FolderRepo, FolderTr
     Ok((FolderRepo::new(rt, repo)?, FolderTree::new(rt, tree)))
 }
 
-/// Runs these words in these folders. With the status come the events of a checkout.
+/// Runs these words in these folders, and writes the journal of a checkout that is done where it is to be.
 fn run_in<H: Threads + Wait + Sync>(
     rt: HostRuntime,
     threads: &H,
     words: &[String],
     repo: &mut FolderRepo,
     mut tree: FolderTree,
-) -> Result<(u8, Vec<Event>), AllocError> {
+    place: JournalPlace,
+) -> Result<u8, AllocError> {
     // first, since it takes the number of a closed standard error
     let spawner = ProcessSpawner::new(rt);
     let maker = spawner.once_maker(threads)?;
     let mut spawner = OnceSpawner::new(rt.alloc(), spawner, maker, false);
     let mut out = OutputSink::new(rt, writer(&rt));
-    let mut history = Vec::new(rt.alloc());
-    let status = run(
-        threads,
-        rt.alloc(),
-        words,
-        repo,
-        &mut tree,
-        &mut spawner,
-        &NoGate,
-        &mut out,
-        &mut history,
-    );
+    let means = Means {
+        rt: threads,
+        alloc: rt.alloc(),
+        gate: &NoGate,
+    };
+    let ended = run_words(&means, words, repo, &mut tree, &mut spawner, &mut out);
     // the program ends now, and its system takes back what is left
     forget(spawner);
-    Ok((status, history))
+    if let (JournalPlace::File(journal), Some(checkout)) = (place, &ended.checkout) {
+        journal.end(checkout);
+    }
+    Ok(ended.status.number())
 }
 
 /// Writes what a status says on standard error.
@@ -118,17 +117,7 @@ fn folder_words<H: Threads + Wait + Sync>(
     place: JournalPlace,
 ) -> Result<u8, AllocError> {
     let (mut repo, tree) = folders_of(rt, words)?;
-    let (status, history) = run_in(rt, threads, words, &mut repo, tree)?;
-    if let JournalPlace::File(journal) = place {
-        let history = history.as_slice();
-        let ended = EndedCheckout {
-            words,
-            status,
-            history,
-        };
-        journal.end(&mut repo, ended);
-    }
-    Ok(status)
+    run_in(rt, threads, words, &mut repo, tree, place)
 }
 
 /// Runs these words, and gives the status. It is `None` where standard error has said already why there is none.
@@ -149,7 +138,7 @@ fn status_of<H: Threads + Wait + Sync>(
     }
 }
 
-fn run_words<H: Threads + Wait + Sync>(rt: HostRuntime, threads: &H) -> Result<u8, AllocError> {
+fn obey<H: Threads + Wait + Sync>(rt: HostRuntime, threads: &H) -> Result<u8, AllocError> {
     let _held = hold_standard(rt);
     let words = words_of(rt.alloc(), args(&rt))?;
     match status_of(rt, threads, &words)? {
@@ -162,7 +151,7 @@ fn run_words<H: Threads + Wait + Sync>(rt: HostRuntime, threads: &H) -> Result<u
 }
 
 fn main(rt: HostRuntime) -> ExitCode {
-    match run_words(rt, &rt) {
+    match obey(rt, &rt) {
         Ok(status) => ExitCode::from(status),
         Err(_) => {
             let status = ExitStatus::OutOfMemory.number();

@@ -1,0 +1,2 @@
+mod RowPlaces
+mod RowCells

@@ -12,16 +12,14 @@ use Rattle.checkout_plan.specs.declared.path_plan.Plan.{Plan}
 use Rattle.checkout_plan.specs.declared.fault.PlanFault.{PlanFault}
 use Rattle.checkout_plan.specs.declared.fault.PlanFault.TheVariants as fault
 use Rattle.checkout_plan.specs.AttributeFiles.{is_attribute_file}
-use Rattle.checkout_plan.specs.Making.{IsFirstFault, HasPlanFault, MakesPlan, GivesBack, blobs_of, blobs_to, max_drivers}
-use Rattle.checkout_plan.specs.declared.made_plan.PlanWithFiles.{PlanWithFiles}
-use Rattle.checkout_plan.specs.WithFiles.{IsMadeWith}
+use Rattle.checkout_plan.specs.Making.{IsFirstFault, HasPlanFault, MakesPlan, GivesBack, blobs_of, blobs_to}
 use Rattle.git_config.specs.declared.setting.Setting.{Setting}
 use Rattle.checkout_sources.specs.declared.stop.Stop.{Stop}
 use Rattle.checkout_sources.specs.Causes.{IsSourceCause, IsSourceUnread, IsFaulty, IsPlanRead}
 use Rattle.checkout_sources.specs.Causes.{IsPartRead, IsCutShort}
 use Rattle.checkout_sources.specs.Reading.{StopsFor, ReadsPlan, IsWithin, IsStopOf}
 use Rattle.checkout_sources.specs.Sources.{HasSources, IsConfigured}
-use Rattle.checkout_sources.specs.Attributed.{AreAttributed}
+use Rattle.checkout_sources.specs.PlannedIndex.{IsIndexPlanned}
 
 -- the entry that a fault names is there
 pub fault_within : (object : List ℕ → Told) (es : List Entry) (outer : OuterFiles) (settings : Settings) (f : PlanFault) → HasPlanFault object es outer settings f → IsWithin es f
@@ -38,16 +36,10 @@ plan_is_read told old new es settings outer plan sources made back kept = record
   seen = kept ∙ ap (λ (l : List (List ℕ × ℕ)). record old { returned = l }) back;
 }
 
-abbrev pub attributed_is_read : (told : RepoTold) (old new : RepoSeen) (es : List Entry) (config : List Setting) (settings : Settings) (outer : OuterFiles) (made : PlanWithFiles) → HasSources told es settings outer → IsConfigured told.config config settings
-    → IsMadeWith told.object es outer settings made → new.returned ≡ old.returned ++ blobs_of es → new ≡ record old { returned = new.returned } → AreAttributed told (record { index = es; config = config; settings = settings; files = made.files }) old new
-attributed_is_read told old new es config settings outer made sources configured is back kept = record {
-  has = record {
-    outer = outer;
-    sources = sources;
-    configured = configured;
-    read = is.read;
-    few = subst (λ (p : Plan). length p.drivers ≤ max_drivers) is.is is.few;
-  };
+abbrev pub index_is_planned : (told : RepoTold) (old new : RepoSeen) (es : List Entry) (config : List Setting) (settings : Settings) (outer : OuterFiles) (plan : Plan) → HasSources told es settings outer → IsConfigured told.config config settings
+    → MakesPlan told.object es outer settings (Ok plan) → GivesBack es old.returned new.returned (Ok plan) → new ≡ record old { returned = new.returned } → IsIndexPlanned told (record { index = es; config = config; plan = plan }) old new
+index_is_planned told old new es config settings outer plan sources configured made back kept = record {
+  has = record { settings = settings; outer = outer; sources = sources; configured = configured; made = made.0; few = made.1 };
   seen = kept ∙ ap (λ (l : List (List ℕ × ℕ)). record old { returned = l }) back;
 }
 

@@ -2,5 +2,5 @@ pub mod Sources
 pub mod Causes
 pub mod RefusalText
 pub mod Reading
-pub mod Attributed
+pub mod PlannedIndex
 pub mod CutShort

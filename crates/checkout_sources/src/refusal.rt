@@ -82,7 +82,8 @@ fn attribute_words(alloc: Global, path: &Bytes, word: &str) -> Result<Vec<u8>, A
     shown_words(alloc, &shown, word)
 }
 
-fn refusal_words(alloc: Global, refusal: &Refusal) -> Result<Vec<u8>, AllocError>
+/// Why a repository is refused, as words.
+pub fn refusal_words(alloc: Global, refusal: &Refusal) -> Result<Vec<u8>, AllocError>
     ensures { IfOk result (λ v. v.items ≡ refusal_words refusal.now) }
 {
     match refusal {

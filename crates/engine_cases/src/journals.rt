@@ -1,9 +1,12 @@
 //! Journals: what the words get, and the journal of a checkout.
-use crate::runs::play;
+ghost use Rattle.checkout_engine.specs.Checkout.{AllWhole};
+
 use case_kit::{Cell, Words, found, number_of};
+use checkout_engine::{Checkout, run_words};
+use checkout_paths::Means;
 use edge_kit::{Blob, MemoryBlob, MemoryRepo, MemorySink, Repo, RepoFail};
 use engine_world::{Case, Watch, World, case_of, words_of, world_of};
-use journal_run::{checkout_journal, journal_run};
+use journal_run::{journal_run, print_journal};
 use std::alloc::{AllocError, Global};
 use std::string::String;
 use std::sync::Wait;
@@ -155,22 +158,48 @@ fn judged<H: Threads + Wait + Sync>(
     Ok(seen)
 }
 
-/// What is said of the journal of a case's checkout over what it is made over, or why there is none.
+/// What is said of the journal of a checkout that ended so, if it is done.
+fn checkout_judged<H: Threads + Wait + Sync>(
+    rt: &H,
+    alloc: Global,
+    status: u8,
+    end: &Option<Checkout>,
+) -> Result<String, Fail>
+    requires { AllWhole end.now }
+{
+    match end {
+        Some(Checkout::Done(run)) => {
+            let journal = print_journal(alloc, run)?;
+            judged(rt, alloc, status, run.history.len(), journal)
+        }
+        _ => Ok(String::from_str(alloc, "no run\n")?),
+    }
+}
+
+/// What is said of the journal of a case's checkout over what it is made over, if it is done.
 fn case_judged<H: Threads + Wait + Sync>(
     rt: &H,
     alloc: Global,
     case: &Case,
     world: &mut World,
 ) -> Result<String, Fail> {
-    let status = play(rt, alloc, case, world);
-    let events = world.history.len();
-    match checkout_journal(alloc, &case.words, &mut world.repo, &world.history) {
-        Ok(journal) => judged(rt, alloc, status, events, journal),
-        Err(fault) => Ok(format!(in alloc; "{fault:?}\n")?),
-    }
+    let means = Means {
+        rt,
+        alloc,
+        gate: &case.gate,
+    };
+    let ended = run_words(
+        &means,
+        &case.words,
+        &mut world.repo,
+        &mut world.tree,
+        &mut world.spawner,
+        &mut world.out,
+    );
+    checkout_judged(rt, alloc, ended.status.number(), &ended.checkout)
 }
 
-/// What is said of the journal of a case's checkout, or why there is none.
+/// What is said of the journal of a case's checkout, if it is done.
 fn case_recorded<H: Threads + Wait + Sync>(
     rt: &H,
     alloc: Global,
@@ -180,7 +209,7 @@ fn case_recorded<H: Threads + Wait + Sync>(
     case_judged(rt, alloc, case, &mut world)
 }
 
-/// What is said of the journal of these cells' checkout, or why there is none.
+/// What is said of the journal of these cells' checkout, if it is done.
 pub fn recorded<H: Threads + Wait + Sync>(
     rt: &H,
     alloc: Global,

@@ -10,7 +10,7 @@ use std::test::Fail;
 use std::thread::Threads;
 
 /// Runs a case. It gives the status.
-pub fn play<H: Threads + Wait + Sync>(rt: &H, alloc: Global, case: &Case, world: &mut World) -> u8 {
+fn play<H: Threads + Wait + Sync>(rt: &H, alloc: Global, case: &Case, world: &mut World) -> u8 {
     run(
         rt,
         alloc,

@@ -2,11 +2,11 @@
 #![tactic(auto)]
 
 mod left;
-mod reports;
+mod path_reports;
 mod single_runs;
 mod talks;
 mod work;
 
 pub use left::{Left, RunView, Sight, left_of, said};
-pub use reports::reported;
+pub use path_reports::reported;
 pub use single_runs::{command_of, host_of, run_of};

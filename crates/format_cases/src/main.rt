@@ -13,7 +13,7 @@ mod converted;
 mod digests;
 mod line_ends;
 mod patterns;
-mod reports;
+mod rows;
 mod states;
 mod stored_forms;
 mod task;
@@ -110,7 +110,7 @@ const PAIRS: Words<Pair> = &[
     (b"ends content ends", Pair::Ends),
     (b"encoded content state", Pair::Encoded),
     (b"decimal text most", Pair::Decimal),
-    (b"report form lines", Pair::Report),
+    (b"report form row", Pair::Report),
 ];
 
 /// What comes of a block with two cells.
@@ -121,7 +121,7 @@ fn pair_read(alloc: Global, form: Pair, first: &[u8], second: &[u8]) -> Result<V
         Pair::Ends => line_ends::converted(alloc, first, second),
         Pair::Encoded => contents::encoded(alloc, first, second),
         Pair::Decimal => texts::decimal(alloc, first, second),
-        Pair::Report => reports::formed(alloc, first, second, None),
+        Pair::Report => rows::formed(alloc, first, second),
     }
 }
 
@@ -163,15 +163,6 @@ fn word_read(alloc: Global, form: &[u8], cells: &[Cell]) -> Result<Vec<u8>, Fail
     }
 }
 
-/// What comes of a block with three cells.
-fn three_read(alloc: Global, form: &[u8], cells: [&[u8]; 3]) -> Result<Vec<u8>, Fail> {
-    if form != b"report form lines fail-at".as_slice() {
-        return Err(unknown(form));
-    }
-    let [a, b, c] = cells;
-    reports::formed(alloc, a, b, Some(number_of(c)?))
-}
-
 /// What comes of a block with four cells.
 fn four_read(alloc: Global, form: &[u8], cells: [&[u8]; 4]) -> Result<Vec<u8>, Fail> {
     if form != b"digests a b c d".as_slice() {
@@ -187,7 +178,6 @@ fn whole_read(alloc: Global, block: &Block) -> Result<Vec<u8>, Fail> {
     match cells {
         [] | [_] => word_read(alloc, form, cells),
         [first, second] => { pair_read(alloc, found(PAIRS, form)?, &first.value, &second.value) }
-        [a, b, c] => three_read(alloc, form, [&a.value, &b.value, &c.value]),
         [a, b, c, d] => four_read(alloc, form, [&a.value, &b.value, &c.value, &d.value]),
         [a, b, c, d, e] => {
             five_read(

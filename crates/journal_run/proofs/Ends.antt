@@ -4,7 +4,7 @@ use Rattle.edge_kit.specs.Faults.{Rose}
 use Rattle.edge_kit.specs.Seen.{BlobSeen, SinkSeen}
 use Rattle.edge_kit.specs.Told.{Told}
 use Rattle.journal_audit.specs.declared.answer.Audit.TheVariants.{Legal, Illegal, Unreadable}
-use Rattle.checkout_engine.specs.Output.{with_text}
+use Rattle.exit_status.specs.Output.{with_text}
 use Rattle.journal_run.specs.declared.finding.Finding.{Finding}
 use Rattle.journal_run.specs.declared.finding.Finding.TheVariants.{Absent, TooLarge, Audited}
 use Rattle.journal_run.specs.declared.status.JournalStatus.{JournalStatus}
@@ -62,7 +62,7 @@ module _ (told : Told) (file file' : BlobSeen) (sink sink' : SinkSeen) where
       elim w [
         | inl h ↦ subst P (sym h.0) (answered f answer found line h.1)
         | inr k ↦ elim k [
-          | inl h ↦ subst P (sym h.0) (record { rose = h.1; status = status_of f; answer = answer; is = (f, found, refl, line); cut = h.2 })
+          | inl h ↦ subst P (sym h.0) (record { status = status_of f; answer = answer; is = (f, found, refl, line); cut = h.1 })
           | inr h ↦ subst P (sym h.0) h.1
         ]
       ]
@@ -73,7 +73,7 @@ module _ (told : Told) (file file' : BlobSeen) (sink sink' : SinkSeen) where
       elim w [
         | inl h ↦ subst P (sym h.0) (answer, (refl, is), h.1)
         | inr k ↦ elim k [
-          | inl h ↦ subst P (sym h.0) (record { rose = h.1; status = status.Done; answer = answer; is = (refl, is); cut = h.2 })
+          | inl h ↦ subst P (sym h.0) (record { status = status.Done; answer = answer; is = (refl, is); cut = h.1 })
           | inr h ↦ subst P (sym h.0) h.1
         ]
       ]
@@ -152,6 +152,6 @@ module _ (told : Told) (file file' : BlobSeen) (sink sink' : SinkSeen) where
       by status.Illegal number answer = inr (status.Illegal, number, audited status.Illegal answer.0 answer.1)
       by status.Usage number none = absurd none
       by status.Unreadable number answer = inr (status.Unreadable, number, audited status.Unreadable answer.0 answer.1)
-      by status.OutputNotWritten number cut = absurd (written cut.rose)
+      by status.OutputNotWritten number cut = absurd (written (cut.cut).rose)
       by status.OutOfMemory number same = inl number
       by status.ReadFault number unread = absurd (read (unread.1).rose)

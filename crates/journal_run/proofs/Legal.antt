@@ -1,5 +1,7 @@
 -- One thing is found of a file, and the journal of a run is legal.
-use Rattle.std.proofs.Common.{◌≡◌, ◌≤◌, ◌*◌, ℕ, List, length, refl, sym, ap, ◌∙◌, subst, arith}
+use Rattle.std.specs.Global.{Vec}
+use Rattle.std.specs.declared.alloc.AllocError.{AllocError}
+use Rattle.std.proofs.Common.{◌≡◌, ◌≤◌, ◌*◌, ℕ, List, length, Result, Ok, Err, IfOk, refl, sym, ap, ◌∙◌, subst, arith}
 use Rattle.edge_kit.specs.Told.{Raw, Absent, Failing, Untold}
 use Rattle.checkout_core.specs.declared.event.Event.{Event}
 use Rattle.checkout_core.specs.declared.path.Start.{Start}
@@ -8,13 +10,16 @@ use Rattle.checkout_core.specs.Steps.{IsLegal}
 use Rattle.checkout_core.specs.Closes.{IsComplete}
 use Rattle.journal_audit.specs.Audits.{IsAudit}
 use Rattle.journal_audit.specs.Laws.{OneAudit, FitsAudit}
-use Rattle.settings_view.specs.declared.view.Settings.{Settings}
 use Rattle.checkout_plan.specs.declared.path_plan.Plan.{Plan}
-use Rattle.checkout_engine.specs.Alike.{OnePlan}
 use Rattle.checkout_engine.specs.Ends.{verdicts_of}
-use Rattle.checkout_paths.specs.Workers.{starts_of, worker_count}
+use Rattle.checkout_paths.specs.Workers.{starts_of}
 use Rattle.writer_pool.specs.Ends.{IsRun}
 use Rattle.journal_run.specs.declared.finding.Finding.TheVariants as finding
+use Rattle.checkout_engine.specs.declared.end.CheckoutRun.{CheckoutRun}
+use Rattle.checkout_engine.specs.Rehearsed.{IsRehearsedRun}
+use Rattle.journal_audit.specs.Audits.{journal_of}
+use Rattle.journal_run.specs.Journals.{IsRunJournal}
+use Rattle.journal_run.specs.Rehearsed.{IsJournalOf}
 use Rattle.journal_run.specs.Laws.{OneFinding, RunsAreLegal, RehearsalsAreLegal, CheckoutsAreLegal}
 use Rattle.journal_run.proofs.Starts.{starts_below}
 
@@ -57,12 +62,20 @@ pub rehearsals_legal : RunsAreLegal → RehearsalsAreLegal
 rehearsals_legal law seed paths text j =
     (length (j.journal).history, law (j.journal).starts (j.journal).workers (j.journal).drivers (j.journal).history _ text (j.run).run j.spelled)
 
--- a second look at the repository shows the plan of the checkout
-pub checkouts_legal : OnePlan → RunsAreLegal → CheckoutsAreLegal
-checkouts_legal one law told ahead asked old new before after text all c j =
+-- the journal of the run of a rehearsal
+pub journal_is : (seed paths : ℕ) (run : CheckoutRun) (result : Result (Vec ℕ) AllocError) → IsRehearsedRun seed paths (starts_of run.plan.paths) run.workers (length run.plan.drivers) run.history.items → IfOk result (λ text. IsRunJournal run text.items)
+    → IfOk result (λ text. IsJournalOf seed paths text.items)
+journal_is seed paths run (Ok text) rehearsed spelled =
+    record { journal = journal_of (starts_of run.plan.paths) run.workers (length run.plan.drivers) run.history.items; spelled = spelled; run = rehearsed }
+journal_is seed paths run (Err e) rehearsed spelled = tt
+
+-- a run of a checkout is complete
+pub checkouts_legal : RunsAreLegal → CheckoutsAreLegal
+checkouts_legal law told ahead asked old new run text c own spelled =
     let vs = verdicts_of c.outcomes in
-    let same = one told all c.plan j.plan c.planned (j.read).planned in
-    let P : Plan → Settings → Type 0 = λ p s. IsRun (starts_of p.paths) (worker_count asked s p.paths) (length p.drivers) new.history vs in
-    let run : P j.plan ((j.read).planned).settings =
-    subst (λ (s : Settings). P j.plan s) same.1 (subst (λ (p : Plan). P p (c.planned).settings) same.0 c.run) in
-    law (starts_of (j.plan).paths) (worker_count asked ((j.read).planned).settings (j.plan).paths) (length (j.plan).drivers) new.history vs text run j.spelled
+    let plan_is : c.plan ≡ run.plan = sym own.plan_is in
+    let ran : IsRun (starts_of run.plan.paths) run.workers (length run.plan.drivers) run.history.items vs =
+    subst (λ (h : List Event). IsRun (starts_of run.plan.paths) run.workers (length run.plan.drivers) h vs) (sym own.history_is)
+    (subst (λ (p : Plan). IsRun (starts_of p.paths) run.workers (length p.drivers) new.history vs) plan_is
+    (subst (λ (n : ℕ). IsRun (starts_of (c.plan).paths) n (length (c.plan).drivers) new.history vs) (sym own.workers_are) c.run)) in
+    law (starts_of run.plan.paths) run.workers (length run.plan.drivers) run.history.items vs text ran spelled

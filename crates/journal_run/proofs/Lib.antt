@@ -1,4 +1,3 @@
 pub mod Ends
 pub mod Legal
 pub mod Starts
-pub mod Planned

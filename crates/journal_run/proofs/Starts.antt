@@ -1,5 +1,5 @@
 -- The starts of a plan fit a journal, and those of a journal name its drivers.
-use Rattle.std.proofs.Common.{◌≡◌, ◌<◌, ◌^◌, ◌&&◌, ℕ, zero, suc, Bool, true, false, List, [], ◌∷◌, length, Some, refl, sym, ap, subst}
+use Rattle.std.proofs.Common.{◌≡◌, ◌<◌, ◌^◌, ◌&&◌, ℕ, zero, suc, Bool, true, false, List, [], ◌∷◌, length, Some, refl, sym, ap, subst, arith}
 use Rattle.std.specs.List.{AllByRecursion, list_all}
 use Rattle.std.proofs.lemmas.Bool.{ltb-true, lt-ltb}
 use Rattle.checkout_core.specs.declared.path.Start.{Start}
@@ -8,7 +8,9 @@ use Rattle.checkout_core.specs.declared.verdict.Verdict.TheVariants as verdict
 use Rattle.checkout_core.specs.declared.verdict.FailCause.TheVariants as fail
 use Rattle.checkout_core.specs.States.{AreBelow}
 use Rattle.checkout_core.specs.declared.event.Event.{Event}
-use Rattle.checkout_engine.specs.Begun.{IsSmallStart}
+use Rattle.checkout_engine.specs.declared.end.CheckoutRun.{CheckoutRun}
+use Rattle.checkout_engine.specs.Small.{IsSmall}
+use Rattle.checkout_paths.specs.Workers.{starts_of}
 use Rattle.checkout_plan.specs.Paths.{HasCause}
 use Rattle.journal_audit.specs.Audits.{IsPrintable}
 use Rattle.journal_audit.specs.Journal.{start_fits}
@@ -51,17 +53,18 @@ starts_below drivers (s ∷ ss) fit zero d required is =
 starts_below drivers (s ∷ ss) fit (suc p) d required is =
     starts_below drivers ss (second (start_fits drivers s) (list_all (λ s. start_fits drivers s) ss) fit) p d required is
 
--- a checkout that is small can be printed
-pub printable : (starts starts' : List Start) (workers drivers : ℕ) (history history' : List Event) → starts' ≡ starts → history' ≡ history
-    → IsSmallStart starts workers drivers → length history < 2 ^ 32 → IsPrintable starts' workers drivers history'
-printable starts starts' workers drivers history history' same events small few =
-    subst (λ (l : List Start). IsPrintable l workers drivers history') (sym same)
-    (subst (λ (h : List Event). IsPrintable starts workers drivers h) (sym events)
+-- a run that is small can be printed
+pub printable : (run : CheckoutRun) (starts : List Start) (drivers : ℕ) (history : List Event) → starts ≡ starts_of run.plan.paths → drivers ≡ length run.plan.drivers → history ≡ run.history.items → IsSmall run
+    → IsPrintable starts run.workers drivers history
+printable run starts drivers history begins many events small =
+    subst (λ (l : List Start). IsPrintable l run.workers drivers history) (sym begins)
+    (subst (λ (k : ℕ). IsPrintable (starts_of run.plan.paths) run.workers k history) (sym many)
+    (subst (λ (h : List Event). IsPrintable (starts_of run.plan.paths) run.workers (length run.plan.drivers) h) (sym events)
     (record {
-      some_workers = small.some_workers;
-      few_workers = small.few_workers;
-      few_drivers = small.few_drivers;
-      few_paths = small.few_starts;
-      few_events = few;
-      starts_fit = starts_fit drivers starts small.desks small.causes;
-    }))
+      some_workers = small.start.some_workers;
+      few_workers = small.start.few_workers;
+      few_drivers = small.start.few_drivers;
+      few_paths = small.start.few_starts;
+      few_events = omega (arith, small.few_events);
+      starts_fit = starts_fit (length run.plan.drivers) (starts_of run.plan.paths) small.start.desks small.start.causes;
+    })))

@@ -1,9 +1,9 @@
 -- How a call ends, by its status, and what is written.
 use Rattle.std.specs.Prelude.{◌≡◌, ◌⊎◌, ℕ, List, Option, Some, None}
 use Rattle.edge_kit.specs.Faults.{Rose}
-use Rattle.edge_kit.specs.Seen.{BlobSeen, SinkSeen}
+use Rattle.edge_kit.specs.Seen.{BlobSeen, SinkSeen, IsWriteCut}
 use Rattle.edge_kit.specs.Told.{Told, MayFail}
-use Rattle.checkout_engine.specs.Output.{IsCut, with_text}
+use Rattle.exit_status.specs.Output.{with_text}
 use Rattle.journal_run.specs.declared.finding.Finding.{Finding}
 use Rattle.journal_run.specs.declared.status.JournalStatus.{JournalStatus}
 use Rattle.journal_run.specs.declared.status.JournalStatus.TheVariants as status
@@ -38,11 +38,10 @@ IsAnsweredBy form told n old new = (s : JournalStatus) × (n ≡ number_of s) ×
 
 -- the sink failed, and a first part of the right answer was written
 pub record IsCutOff (form : JournalTask) (told : Told) (old new : SinkSeen) : Type 0 where
-  pub rose : Rose old.faults new.faults
   pub status : JournalStatus
   pub answer : List ℕ
   pub is : IsAnswer form told status answer
-  pub cut : IsCut answer old new
+  pub cut : IsWriteCut answer old new
 
 -- the file couldn't be read: its count of faults rose
 pub record IsUnread (told : Told) (old new : BlobSeen) : Type 0 where
@@ -53,7 +52,7 @@ pub record IsUnread (told : Told) (old new : BlobSeen) : Type 0 where
 abbrev pub Writes : JournalStatus → List ℕ → SinkSeen → SinkSeen → JournalStatus → Type 0
 Writes s answer old new end =
     ((end ≡ s) × (new ≡ with_text answer old))
-    ⊎ (((end ≡ status.OutputNotWritten) × Rose old.faults new.faults × IsCut answer old new)
+    ⊎ (((end ≡ status.OutputNotWritten) × IsWriteCut answer old new)
     ⊎ ((end ≡ status.OutOfMemory) × (new ≡ old)))
 
 -- how a form ends

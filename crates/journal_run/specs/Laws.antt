@@ -1,6 +1,5 @@
 -- What follows of an answer.
 use Rattle.std.specs.Prelude.{◌≡◌, ◌≤◌, ℕ, List, length, Option}
-use Rattle.edge_kit.specs.Seen.{RepoSeen}
 use Rattle.edge_kit.specs.Starters.{Starts}
 use Rattle.edge_kit.specs.Told.{Told, RepoTold}
 use Rattle.checkout_core.specs.declared.event.Event.{Event}
@@ -8,12 +7,14 @@ use Rattle.checkout_core.specs.declared.path.Start.{Start}
 use Rattle.checkout_core.specs.declared.verdict.Verdict.{Verdict}
 use Rattle.journal_audit.specs.Audits.{IsAudit, Spells, journal_of}
 use Rattle.journal_audit.specs.declared.answer.Audit.TheVariants.{Legal}
-use Rattle.checkout_engine.specs.Alike.{IsTold, RepoTellsAll}
+use Rattle.checkout_engine.specs.declared.end.CheckoutRun.{CheckoutRun}
+use Rattle.checkout_engine.specs.Alike.{IsTold}
+use Rattle.checkout_engine.specs.Checkout.{IsRunOf}
 use Rattle.checkout_engine.specs.Ends.{Seen, IsCheckedOut}
 use Rattle.writer_pool.specs.Ends.{IsRun}
 use Rattle.journal_run.specs.declared.finding.Finding.{Finding}
 use Rattle.journal_run.specs.Findings.{IsFinding, text_limit}
-use Rattle.journal_run.specs.Planned.{IsCheckoutJournal}
+use Rattle.journal_run.specs.Journals.{IsRunJournal}
 use Rattle.journal_run.specs.Rehearsed.{IsJournalOf}
 
 -- one thing is found of a file that is told
@@ -36,8 +37,8 @@ abbrev pub RehearsalsAreLegal : Type 0
 RehearsalsAreLegal = (seed paths : ℕ) (text : List ℕ) → IsJournalOf seed paths text
     → (events : ℕ) × IsLegalText text events
 
--- So is the journal of a checkout that has its history, if the repository tells all that it holds.
+-- So is the journal of the run of a checkout.
 abbrev pub CheckoutsAreLegal : Type 0
 CheckoutsAreLegal = (told : RepoTold) (ahead : List ℕ → Starts) (asked : Option ℕ) (old new : Seen)
-    (before after : RepoSeen) (text : List ℕ) → RepoTellsAll told → IsCheckedOut told ahead asked old new
-    → IsCheckoutJournal told asked new.history before after text → IsLegalText text (length new.history)
+    (run : CheckoutRun) (text : List ℕ) → (c : IsCheckedOut told ahead asked old new) → IsRunOf c run
+    → IsRunJournal run text → IsLegalText text (length run.history.items)

@@ -1,6 +1,6 @@
 pub mod Words
 pub mod Findings
 pub mod Rehearsed
-pub mod Planned
+pub mod Journals
 pub mod Ends
 pub mod Laws

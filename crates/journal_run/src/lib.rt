@@ -1,15 +1,15 @@
-//! Journals at work: that of a rehearsal, that of a checkout, and the audit of one in a file.
+//! Journals at work: that of a run, that of a rehearsal by its numbers, and the audit of one in a file.
 #![tactic(auto)]
 
-mod checkout;
 mod finding;
+mod journal;
 mod laws;
 mod rehearsed;
 mod run;
 mod status;
 mod words;
 
-pub use checkout::{JournalFault, checkout_journal};
+pub use journal::print_journal;
 pub use laws::{a_file_has_one_finding, checkouts_are_legal, rehearsals_are_legal, runs_are_legal};
 pub use run::journal_run;
 pub use words::is_journal;

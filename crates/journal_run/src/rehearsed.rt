@@ -2,9 +2,10 @@
 ghost use Rattle.std.specs.Prelude.{◌≡◌, ◌≤◌, IfOk};
 ghost use Rattle.journal_run.specs.Rehearsed.{IsJournalOf};
 
+use crate::journal::print_journal;
 use checkout_engine::rehearsed_run;
+use checkout_paths::Means;
 use edge_kit::Gate;
-use journal_audit::print_journal;
 use std::alloc::{AllocError, Global};
 use std::sync::Wait;
 use std::thread::Threads;
@@ -20,6 +21,7 @@ pub fn rehearsal_journal<G: Gate, H: Threads + Wait + Sync>(
     requires { paths ≤ 99999 }
     ensures { IfOk result (λ text. IsJournalOf seed paths text.items) }
 {
-    let run = rehearsed_run(rt, alloc, seed, paths, gate)?;
-    print_journal(alloc, &run.starts, run.workers, run.drivers, &run.history)
+    let means = Means { rt, alloc, gate };
+    let run = rehearsed_run(&means, seed, paths)?;
+    print_journal(alloc, &run)
 }

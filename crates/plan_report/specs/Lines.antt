@@ -7,6 +7,8 @@ use Rattle.byte_path.specs.Quote.{quoted}
 use Rattle.checkout_core.specs.declared.path.Start.{Start}
 use Rattle.checkout_core.specs.declared.path.Start.TheVariants as start
 use Rattle.checkout_report.specs.Report.{cause_of, mark_word}
+use Rattle.eol_convert.specs.Action.{ends_of}
+use Rattle.eol_convert.specs.declared.action.Action.TheVariants.{Binary}
 use Rattle.eol_convert.specs.declared.setting.LineEnds.{LineEnds}
 use Rattle.eol_convert.specs.declared.setting.LineEnds.TheVariants.{Keep, ToCrlf, AutoCrlf}
 use Rattle.tree_encoding.specs.declared.encoding.Encoding.{Encoding}
@@ -59,14 +61,20 @@ driver_word drivers (start.Done v) = codes "-"
 
 -- line ends, ident and encoding
 abbrev pub conversion_words : Conversion → List ℕ
-conversion_words c = ends_word c.ends ++ space ∷ ident_word c.ident ++ space ∷ encoding_word c.encoding
+conversion_words c = ends_word (ends_of c.action) ++ space ∷ ident_word c.ident ++ space ∷ encoding_word c.encoding
+
+-- what is shown of a path's conversion: one that the plan closes isn't converted
+abbrev pub shown_conversion : Start → Conversion → Conversion
+shown_conversion (start.Done v) c = record { ident = false; action = Binary; encoding = None }
+shown_conversion start.Pool c = c
+shown_conversion (start.Desk driver required) c = c
 
 -- the columns before the driver: state, mark, the three of the conversion, and need, with a space
 -- after each
 abbrev pub front_of : PathPlan → List ℕ
 front_of p =
     state_word p.start ++ (space ∷ (mark_word p.mark
-    ++ (space ∷ (conversion_words p.conversion ++ (space ∷ (need_word p.start ++ space ∷ []))))))
+    ++ (space ∷ (conversion_words (shown_conversion p.start p.conversion) ++ (space ∷ (need_word p.start ++ space ∷ []))))))
 
 -- the line of a path: these columns, the driver and the path
 abbrev pub line_of : List Driver → PathPlan → List ℕ

@@ -1,7 +1,9 @@
-//! The text of a plan: what a checkout would do.
+//! The plan of a checkout as rows, and its text.
 #![tactic(auto)]
 
-mod columns;
-mod lines;
+mod cells;
+mod laws;
+mod rows;
 
-pub use lines::plan_lines;
+pub use laws::text_is_plan;
+pub use rows::{PlanRows, plan_lines};

@@ -4,9 +4,9 @@ use Rattle.std.specs.Vec.Iter.{into_iter_items}
 use Rattle.std.specs.declared.vec.IntoIter.{IntoIter}
 use Rattle.std.specs.declared.io.Error.{Error}
 use Rattle.std.specs.declared.alloc.Global.{Global}
-use Rattle.checkout_engine.specs.declared.exit_status.ExitStatus.{ExitStatus}
-use Rattle.checkout_engine.specs.declared.exit_status.ExitStatus.TheVariants as status
-use Rattle.checkout_engine.specs.Report.{status_with}
+use Rattle.exit_status.specs.declared.status.ExitStatus.{ExitStatus}
+use Rattle.exit_status.specs.declared.status.ExitStatus.TheVariants as status
+use Rattle.exit_status.specs.Status.{status_with}
 
 -- the words after the program's name, or none if they can't be given
 abbrev pub words_of : Result (IntoIter (String Global) Global) Error → List (String Global)

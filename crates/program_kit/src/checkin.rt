@@ -43,6 +43,11 @@ impl EndedCheckin {
         self.keep.made_index()
     }
 
+    /// The paths that failed, in their order.
+    pub fn failed(&self) -> &[Bytes] {
+        self.failed.as_slice()
+    }
+
     /// What an index is to tell of the files that were read, by their paths and in their order, if they keep that.
     /// Nothing is told of a file whose path failed.
     pub fn stats(&self, alloc: Global) -> Result<Vec<(&[u8], Stat)>, AllocError> {

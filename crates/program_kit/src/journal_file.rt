@@ -1,35 +1,15 @@
 //! The file for the journal of a checkout.
+ghost use Rattle.checkout_engine.specs.Checkout.{HasWholeRun};
+ghost use Rattle.checkout_engine.specs.Small.{IsSmall};
+
 use anyhow::Result;
-use checkout_core::Event;
-use checkout_engine::ExitStatus;
+use checkout_engine::{Checkout, CheckoutRun};
 use edge_adapters::remove_own;
-use edge_kit::Repo;
-use journal_run::checkout_journal;
+use journal_run::print_journal;
 use std::alloc::AllocError;
 use std::fs::{File, OpenOptions};
 use std::io;
 use std::io::{ErrorKind, Write};
-
-/// What a checkout leaves for its journal.
-#[derive(Clone, Copy)]
-pub struct EndedCheckout<'a> {
-    /// The words that the engine got.
-    pub words: &'a [String],
-    pub status: u8,
-    /// The events of the run, in order.
-    pub history: &'a [Event],
-}
-
-impl EndedCheckout<'_> {
-    /// Whether the checkout reached its report.
-    fn has_journal(&self) -> bool {
-        let is_done = matches!(
-            ExitStatus::of(self.status),
-            Some(ExitStatus::Done | ExitStatus::DoneWithFailures)
-        );
-        is_done || !self.history.is_empty()
-    }
-}
 
 /// A new file for the journal of a checkout. It is made before the checkout, so that a place where none can be is told
 /// in time. When it is dropped without its whole journal, it is removed.
@@ -86,20 +66,23 @@ impl JournalFile {
         }
     }
 
-    /// Writes the journal. The repository is read once more for its plan.
-    fn write<R: Repo>(&mut self, repo: &mut R, ended: EndedCheckout<'_>) -> Result<()> {
-        let alloc = self.rt.alloc();
-        let journal = checkout_journal(alloc, ended.words, repo, ended.history)?;
+    /// Writes the journal of a run.
+    fn write(&mut self, run: &CheckoutRun) -> Result<()>
+        requires { IsSmall run.now }
+    {
+        let journal = print_journal(self.rt.alloc(), run)?;
         self.file.write_all(&journal)?;
         Ok(())
     }
 
-    /// Writes the journal of a checkout that reached its report. If it can't be written, standard error says why.
-    pub fn end<R: Repo>(mut self, repo: &mut R, ended: EndedCheckout<'_>) {
-        if !ended.has_journal() {
+    /// Writes the journal of a checkout that is done. If it can't be written, standard error says why.
+    pub fn end(mut self, end: &Checkout)
+        requires { HasWholeRun end.now }
+    {
+        let Checkout::Done(run) = end else {
             return;
-        }
-        match self.write(repo, ended) {
+        };
+        match self.write(run) {
             Ok(()) => self.is_whole = true,
             Err(error) => {
                 let title = &self.title;

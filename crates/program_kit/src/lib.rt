@@ -12,7 +12,7 @@ mod progress;
 mod refused;
 
 pub use checkin::{EndedCheckin, check_in};
-pub use journal_file::{EndedCheckout, JournalFile};
+pub use journal_file::JournalFile;
 pub use messages::message_of;
 pub use notes::{show_drivers, show_errors};
 pub use own_words::words_of;

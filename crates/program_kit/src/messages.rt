@@ -1,7 +1,7 @@
 ghost use Rattle.std.specs.Prelude.{◌≡◌, option_map};
 ghost use Rattle.program_kit.specs.Words.{message_of};
 
-use checkout_engine::ExitStatus;
+use exit_status::ExitStatus;
 
 /// What a status of the engine says on standard error.
 pub fn message_of(status: u8) -> Option<&'static str>

@@ -28,12 +28,12 @@ use Rattle.git_index.specs.declared.entry.Mode.TheVariants.{Plain}
 use Rattle.edge_kit.specs.declared.leaf_state.Mark.TheVariants as mark
 use Rattle.settings_view.specs.declared.view.Settings.{Settings}
 use Rattle.checkout_plan.specs.declared.path_plan.PathPlan.{PathPlan}
-use Rattle.checkout_plan.specs.Paths.{asked_path, filter_start, converted, conversion_names}
+use Rattle.checkout_plan.specs.Paths.{asked_path, filter_start, filter_place, converted, conversion_names}
 use Rattle.rehearsal.specs.Paths.{kind, name, content}
 use Rattle.rehearsal.specs.Repository.{attributes, attributes_name, entry_of}
 use Rattle.rehearsal.specs.Repository as repository
 use Rattle.rehearsal_numbers.specs.Contents.{name_of}
-use Rattle.rehearsal_numbers.specs.Plans.{conversion_at, start_at, path_at, attributes_path, alpha, beta}
+use Rattle.rehearsal_numbers.specs.Plans.{conversion_at, start_at, driver_at, path_at, attributes_path, alpha, beta}
 use Rattle.rehearsal_numbers.proofs.Rows.{top, spelled, says, folders_say}
 
 abbrev pub settings : Settings
@@ -66,8 +66,9 @@ state_by pairs name = unwrap_or (said_of (decided (macros_of given) pairs no_nam
 
 made_by : List Pair → Entry → PathPlan
 made_by pairs e =
-    converted e (filter_start settings.drivers (state_by pairs (codes "filter")))
-    (conversion_of (map (state_by pairs) conversion_names) settings.autocrlf settings.eol)
+    record (converted e (filter_start settings.drivers (state_by pairs (codes "filter")))
+    (conversion_of (map (state_by pairs) conversion_names) settings.autocrlf settings.eol))
+    { driver = filter_place settings.drivers (state_by pairs (codes "filter")) }
 
 abbrev entry : List ℕ → List ℕ → Entry
 entry path name = record { path = path; stage = 0; mode = Plain; name = name; sparse = false; intent = false }
@@ -79,6 +80,7 @@ result path name k = record {
   mark = mark.Plain;
   conversion = conversion_at k;
   start = start_at 1 k;
+  driver = driver_at k;
 }
 
 -- a fact of each number below 8

@@ -24,9 +24,10 @@ use Rattle.checkout_engine.specs.Ends.{verdicts_of, files_of}
 use Rattle.checkout_paths.specs.Outcome.{Outcome, AreOutcomes}
 use Rattle.checkout_paths.specs.Paths.{leaves_back}
 use Rattle.checkout_engine.specs.Rehearsed.{summary, bytes_of, new_memory, first_words, last_words}
-use Rattle.checkout_engine.specs.Report.{lacks_memory, number_of, status_of}
+use Rattle.checkout_engine.specs.Report.{lacks_memory, status_of}
+use Rattle.exit_status.specs.Status.{number_of}
 use Rattle.checkout_paths.specs.Talks.{DriverTalk, AreDriverTalks}
-use Rattle.checkout_engine.specs.declared.exit_status.ExitStatus.TheVariants as status
+use Rattle.exit_status.specs.declared.status.ExitStatus.TheVariants as status
 use Rattle.rehearsal.specs.Paths.{name, in_order}
 use Rattle.rehearsal.specs.Drivers.{scripts}
 use Rattle.rehearsal.specs.Repository.{attributes, attributes_name, file, entry_of}

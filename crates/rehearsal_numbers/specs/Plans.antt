@@ -1,10 +1,10 @@
 -- What the plan of a rehearsal has of each path.
 use Rattle.std.specs.Prelude.{◌≡◌, ◌≤◌, ◌==◌, ◌||◌, ℕ, Bool, true, false, List, [], ◌∷◌, ◌++◌, map, codes}
-use Rattle.std.specs.Prelude.{Some, None, if◌then◌else◌}
+use Rattle.std.specs.Prelude.{Option, Some, None, if◌then◌else◌}
 use Rattle.std.specs.List.{list_any}
 use Rattle.edge_kit.specs.Told.{RepoTold}
 use Rattle.edge_kit.specs.declared.leaf_state.Mark.TheVariants as mark
-use Rattle.eol_convert.specs.declared.setting.LineEnds.TheVariants as ends
+use Rattle.eol_convert.specs.declared.action.Action.TheVariants.{Binary, TextCrlf}
 use Rattle.tree_encoding.specs.declared.encoding.Encoding.TheVariants.{Utf16Le}
 use Rattle.convert_plan.specs.declared.conversion.Conversion.{Conversion}
 use Rattle.checkout_core.specs.declared.path.Start.{Start}
@@ -21,7 +21,7 @@ use Rattle.rehearsal_numbers.specs.Contents.{name_of}
 abbrev pub conversion_at : ℕ → Conversion
 conversion_at k = record {
   ident = k == 2;
-  ends = if k == 1 then ends.ToCrlf else ends.Keep;
+  action = if k == 1 then TextCrlf else Binary;
   encoding = if k == 3 then Some Utf16Le else None;
 }
 
@@ -36,6 +36,10 @@ is_beta k = (k == 6) || (k == 7)
 abbrev pub start_at : ℕ → ℕ → Start
 start_at beta k =
     if is_alpha k then start.Desk 0 true else if is_beta k then start.Desk beta false else start.Pool
+
+-- `alpha` has place 0 among the drivers of the settings, and `beta` place 1
+abbrev pub driver_at : ℕ → Option ℕ
+driver_at k = if is_alpha k then Some 0 else if is_beta k then Some 1 else None
 
 -- whether a path with one of these numbers has a kind of the test
 abbrev pub has_kind : (ℕ → Bool) → ℕ → List ℕ → Bool
@@ -52,6 +56,7 @@ path_at beta seed i = record {
   mark = mark.Plain;
   conversion = conversion_at (kind seed i);
   start = start_at beta (kind seed i);
+  driver = driver_at (kind seed i);
 }
 
 -- the attribute file is written as it is
@@ -62,6 +67,7 @@ attributes_path = record {
   mark = mark.Plain;
   conversion = conversion_at 0;
   start = start.Pool;
+  driver = None;
 }
 
 abbrev pub alpha : Driver

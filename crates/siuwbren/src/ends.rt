@@ -1,5 +1,5 @@
 //! How the program ends for words that name no command.
-use checkout_engine::ExitStatus;
+use exit_status::ExitStatus;
 use siuwbren_index::end_with;
 
 /// Gives the help or the version that the words ask for.

@@ -1,5 +1,7 @@
 //! The plan of a checkout.
-use checkout_engine::{ExitStatus, plan_text};
+use checkout_engine::report_plan;
+use checkout_sources::read_plan;
+use exit_status::ExitStatus;
 use git_edge::GitRepo;
 use program_kit::show_refused_path;
 use siuwbren_index::{end_run, end_with, refuse_guarded, refuse_repository, sink_of};
@@ -15,13 +17,14 @@ fn show_plan_of(
     if let Some(status) = refuse_guarded(rt, repo, asked.form)? {
         return Ok(end_with(rt, status.number()));
     }
+    let planned = read_plan(rt.alloc(), repo);
     let mut out = sink_of(rt, asked.form);
-    let status = plan_text(rt.alloc(), repo, &mut out);
-    end_run(rt, status, repo);
-    if status == ExitStatus::Refused.number() {
+    let status = report_plan(rt.alloc(), asked.form, &mut out, planned);
+    end_run(rt, status.number(), repo);
+    if matches!(status, ExitStatus::Refused) {
         show_refused_path(rt, repo);
     }
-    Ok(status)
+    Ok(status.number())
 }
 
 /// Shows what a checkout of a repository's index would do.

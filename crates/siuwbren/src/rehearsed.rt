@@ -2,7 +2,7 @@
 use crate::engine_words::rehearse_words;
 use checkout_engine::run;
 use edge_kit::{MemoryRepo, MemorySpawner, MemoryTree, NoGate};
-use report_forms::ReportForm;
+use reports::ReportForm;
 use siuwbren_index::{end_with, sink_of};
 use std::alloc::AllocError;
 use std::sync::Wait;

@@ -6,7 +6,8 @@
 #![tactic(auto)]
 
 mod checkout;
-mod engine_words;
+mod driver_gate;
+mod engine_call;
 mod journal;
 mod submodules;
 

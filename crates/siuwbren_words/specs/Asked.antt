@@ -4,7 +4,7 @@ use Rattle.std.specs.Prelude.{option_map, option_and_then}
 use Rattle.std.specs.Str.{bytes_eq}
 use Rattle.clap.specs.Words.{Row, Text, first_of}
 use Rattle.byte_path.specs.Decimal.{decimal_within}
-use Rattle.report_forms.specs.declared.form.ReportForm.{ReportForm}
+use Rattle.reports.specs.declared.form.ReportForm.{ReportForm}
 use Rattle.siuwbren_words.specs.Parser.{GivesText, command_in, siuwbren_app}
 use Rattle.siuwbren_words.specs.Values.{is_set, workers_of, plan_form, report_form, progress_of}
 use Rattle.siuwbren_words.specs.declared.command.CheckoutWords.{CheckoutWords}

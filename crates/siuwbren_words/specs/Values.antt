@@ -3,8 +3,8 @@ use Rattle.std.specs.Prelude.{ℕ, Bool, true, false, ◌&&◌, ◌^◌, ◌-◌
 use Rattle.std.specs.Str.{bytes_eq}
 use Rattle.clap.specs.Words.{Text}
 use Rattle.byte_path.specs.Decimal.{decimal_within}
-use Rattle.report_forms.specs.declared.form.ReportForm.{ReportForm}
-use Rattle.report_forms.specs.declared.form.ReportForm.TheVariants as form
+use Rattle.reports.specs.declared.form.ReportForm.{ReportForm}
+use Rattle.reports.specs.declared.form.ReportForm.TheVariants as form
 use Rattle.siuwbren_words.specs.declared.command.ProgressChoice.{ProgressChoice}
 use Rattle.siuwbren_words.specs.declared.command.ProgressChoice.TheVariants as progress
 

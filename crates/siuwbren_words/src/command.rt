@@ -1,5 +1,6 @@
 //! What the words ask the program to do.
-use report_forms::ReportForm;
+use crate::worker_count::WorkerCount;
+use reports::ReportForm;
 
 /// Where the progress of a checkout is shown.
 #[derive(Clone, Copy, Debug, PartialEq, Eq)]
@@ -17,8 +18,8 @@ pub struct CheckoutWords<'a> {
     pub git_dir: Option<&'a str>,
     /// The commit, tag or tree to check out, or none for the index.
     pub commit: Option<&'a str>,
-    /// How many workers, from 1 to 16, or none for the number that the configuration has.
-    pub workers: Option<u32>,
+    /// How many workers, or none for the number that the configuration has.
+    pub workers: Option<WorkerCount>,
     pub form: ReportForm,
     pub progress: ProgressChoice,
     /// Whether only failures stand on standard error.

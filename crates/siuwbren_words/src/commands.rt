@@ -2,7 +2,7 @@
 ghost use Rattle.std.specs.Prelude.{◌≡◌, option_map};
 ghost use Rattle.std.specs.Result.{result_ok};
 ghost use Rattle.clap.specs.Words.{found_of, rows_of};
-ghost use Rattle.siuwbren_words.specs.Asked.{shown_checkout, shown_checkin, shown_plan, shown};
+ghost use Rattle.siuwbren_words.specs.Asked.{shown_checkin, shown_plan, shown, checkout};
 ghost use Rattle.siuwbren_words.specs.Asked.{checkout_by, checkin_by, plan_by, rehearse_by, audit_by, asked_by};
 
 use crate::command::{CheckinWords, CheckoutWords, PlanWords, Subcommand};
@@ -11,8 +11,8 @@ use crate::values::{
 };
 use clap::ArgMatches;
 
-fn checkout_of<'a>(matches: &ArgMatches<'a>) -> Result<CheckoutWords<'a>, Mistake<'a>>
-    ensures { option_map shown_checkout (result_ok result) ≡ checkout_by (rows_of (found_of matches.now)) }
+fn checkout_of<'a>(matches: &ArgMatches<'a>) -> Result<Subcommand<'a>, Mistake<'a>>
+    ensures { option_map shown (result_ok result) ≡ option_map checkout (checkout_by (rows_of (found_of matches.now))) }
 {
     let workers = workers_of(value_of(matches, "workers"))?;
     let form = report_form(value_of(matches, "report"), has_flag(matches, "nul"))?;
@@ -23,7 +23,7 @@ fn checkout_of<'a>(matches: &ArgMatches<'a>) -> Result<CheckoutWords<'a>, Mistak
         quiet,
     )?;
     let tree = value_of(matches, "tree").ok_or(Mistake::NoTree)?;
-    Ok(CheckoutWords {
+    Ok(Subcommand::Checkout(CheckoutWords {
         git_dir: value_of(matches, "git-dir"),
         commit: value_of(matches, "commit"),
         workers,
@@ -33,7 +33,7 @@ fn checkout_of<'a>(matches: &ArgMatches<'a>) -> Result<CheckoutWords<'a>, Mistak
         journal: value_of(matches, "journal"),
         update_index: has_flag(matches, "update-index"),
         tree,
-    })
+    }))
 }
 
 fn checkin_of<'a>(matches: &ArgMatches<'a>) -> CheckinWords<'a>
@@ -77,7 +77,7 @@ pub fn command_of<'a>(name: &str, matches: &ArgMatches<'a>) -> Result<Subcommand
     ensures { option_map shown (result_ok result) ≡ asked_by name.now (rows_of (found_of matches.now)) }
 {
     match name {
-        "checkout" => Ok(Subcommand::Checkout(checkout_of(matches)?)),
+        "checkout" => checkout_of(matches),
         "checkin" => Ok(Subcommand::Checkin(checkin_of(matches))),
         "plan" => Ok(Subcommand::Plan(plan_of(matches)?)),
         "rehearse" => rehearsal_of(matches),

@@ -8,7 +8,9 @@ mod fault;
 mod parser;
 mod values;
 mod words_read;
+mod worker_count;
 
 pub use command::{CheckinWords, CheckoutWords, PlanWords, ProgressChoice, Subcommand};
 pub use fault::UsageFault;
 pub use words_read::read_words;
+pub use worker_count::WorkerCount;

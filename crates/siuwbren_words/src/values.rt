@@ -7,9 +7,10 @@ ghost use Rattle.siuwbren_words.specs.Values.{is_set, workers_of, text_form, oth
 ghost use Rattle.siuwbren_words.specs.Values.{plan_form, report_form, progress_of};
 
 use crate::command::ProgressChoice;
+use crate::worker_count::WorkerCount;
 use byte_path::read_decimal;
 use clap::ArgMatches;
-use report_forms::ReportForm;
+use reports::ReportForm;
 use std::fmt;
 
 /// A value that an option or a place can't have.
@@ -91,14 +92,14 @@ pub fn has_flag(matches: &ArgMatches<'_>, name: &str) -> bool
 }
 
 /// A number of workers: a decimal from 1 to 16.
-pub fn workers_of(word: Option<&str>) -> Result<Option<u32>, Mistake<'_>>
+pub fn workers_of(word: Option<&str>) -> Result<Option<WorkerCount>, Mistake<'_>>
     ensures { result_ok result ≡ workers_of (option_map (λ text. text.now) word.entry) }
 {
     let Some(text) = word else {
         return Ok(None);
     };
     match read_decimal(text.as_bytes(), 16) {
-        Some(number) if number >= 1 => Ok(Some(number as u32)),
+        Some(number) if number >= 1 => Ok(Some(WorkerCount::new(number as u32))),
         _ => Err(Mistake::Workers(text)),
     }
 }

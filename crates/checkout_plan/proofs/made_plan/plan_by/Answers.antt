@@ -7,4 +7,4 @@ use Rattle.checkout_plan.proofs.made_plan.plan_by.Goals as goal
 
 pub plan_with-requires : goal.plan_with-requires
 plan_with-requires c =
-    subst (λ (ps : List PathPlan). All (IsWithin (length c.args.settings.now.drivers)) ps) (sym c.in_ok-paths.ensures.paths) (all_within c.args.files c.args.settings.now c.args.entries.now)
+    subst (λ (ps : List PathPlan). All (IsWithin (length c.args.settings.now.drivers)) ps) (sym c.in_ok-asked.ensures) (all_within c.args.files c.args.settings.now c.args.entries.now)

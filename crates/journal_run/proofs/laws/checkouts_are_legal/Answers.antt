@@ -2,4 +2,4 @@ use Rattle.journal_run.proofs.Legal.{checkouts_legal}
 use Rattle.journal_run.proofs.laws.checkouts_are_legal.Goals as goal
 
 pub returns : goal.returns
-returns c = checkouts_legal c.a_told_repository_has_one_plan.ensures c.runs_are_legal.ensures
+returns c = checkouts_legal c.runs_are_legal.ensures

@@ -1,0 +1,7 @@
+//! What is known of a report's rows.
+ghost use Rattle.checkout_report.specs.Rows.{ReportsAreRows};
+
+/// Which row stands at each place of a report. The rows of the text, one behind the other, are the report.
+pub fn reports_are_rows()
+    ensures { ReportsAreRows }
+{}

@@ -1,0 +1,3 @@
+mod FirstRows
+mod Joined
+mod Texts

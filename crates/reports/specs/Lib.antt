@@ -1,0 +1,6 @@
+pub mod Fields
+pub mod FirstRows
+pub mod Forms
+pub mod Lines
+pub mod Objects
+pub mod Written

@@ -1,0 +1,46 @@
+use Rattle.std.proofs.Common.{◌≡◌, ◌∙◌, map, Some, ap, sym, slice_get}
+use Rattle.std.specs.Option.{option_map}
+use Rattle.std.proofs.lemmas.Option.{slice_get-get_or, slice_get_past, slice_get-map}
+use Rattle.std.proofs.lemmas.Result.{IfOk-weaker}
+use Rattle.checkout_report.specs.Rows.{report_row, done_row}
+use Rattle.run_report.specs.Rows.{shown, run_rows}
+use Rattle.run_report.proofs.report.RunReportRows.row.Goals as goal
+
+pub returns-in-Some-get : goal.returns-in-Some-get
+returns-in-Some-get c =
+    let ps = c.args.self.now.paths.now in
+    let vs = c.args.self.now.verdicts.now in
+    let k = c.args.place in
+    let p = c.in-Some.path.now in
+    let v = c.in-Some-get.verdict.now in
+    let path = c.in-Some.ensures.lookup in
+    let verdict = c.in-Some-get.ensures.lookup in
+    let at = c.reports_are_rows.ensures.path_at c.args.form (map shown ps) vs k (shown p) v
+    (slice_get-map shown ps k ∙ ap (option_map shown) (slice_get-get_or ps k p path.3.0 ∙ ap Some (sym path.1)))
+    (slice_get-get_or vs k v verdict.3.0 ∙ ap Some (sym verdict.1)) in
+    IfOk-weaker c.report_row.result (λ x. x.items ≡ report_row c.args.form c.as_slice.result.now p.mark v)
+    (λ x. slice_get (run_rows c.args.form ps vs) k ≡ Some x.items)
+    (λ x is. at ∙ ap (λ path. Some (report_row c.args.form path p.mark v)) (sym c.as_slice.ensures) ∙ ap Some (sym is))
+    c.report_row.ensures
+
+pub returns-in-None-get : goal.returns-in-None-get
+returns-in-None-get c =
+    let ps = c.args.self.now.paths.now in
+    let vs = c.args.self.now.verdicts.now in
+    let k = c.args.place in
+    let past = slice_get_past vs k c.in-None-get.ensures.lookup.3 in
+    IfOk-weaker c.done_row.result (λ x. x.items ≡ done_row c.args.form vs)
+    (λ x. slice_get (run_rows c.args.form ps vs) k ≡ Some x.items)
+    (λ x is. c.reports_are_rows.ensures.done_past_verdicts c.args.form (map shown ps) vs k past c.requires ∙ ap Some (sym is))
+    c.done_row.ensures
+
+pub returns-in-None : goal.returns-in-None
+returns-in-None c =
+    let ps = c.args.self.now.paths.now in
+    let vs = c.args.self.now.verdicts.now in
+    let k = c.args.place in
+    let past = slice_get-map shown ps k ∙ ap (option_map shown) (slice_get_past ps k c.in-None.ensures.lookup.3) in
+    IfOk-weaker c.done_row-in-None.result (λ x. x.items ≡ done_row c.args.form vs)
+    (λ x. slice_get (run_rows c.args.form ps vs) k ≡ Some x.items)
+    (λ x is. c.reports_are_rows.ensures.done_past_paths c.args.form (map shown ps) vs k past c.requires ∙ ap Some (sym is))
+    c.done_row-in-None.ensures
