@@ -1,9 +1,7 @@
 //! The file for the journal of a checkout.
 ghost use Rattle.checkout_engine.specs.Checkout.{HasWholeRun};
-ghost use Rattle.checkout_engine.specs.Small.{IsSmall};
 
-use anyhow::Result;
-use checkout_engine::{Checkout, CheckoutRun};
+use checkout_engine::Checkout;
 use edge_adapters::remove_own;
 use journal_run::print_journal;
 use std::alloc::AllocError;
@@ -66,13 +64,15 @@ impl JournalFile {
         }
     }
 
-    /// Writes the journal of a run.
-    fn write(&mut self, run: &CheckoutRun) -> Result<()>
-        requires { IsSmall run.now }
-    {
-        let journal = print_journal(self.rt.alloc(), run)?;
-        self.file.write_all(&journal)?;
-        Ok(())
+    /// Writes the whole journal. If it can't be written, standard error says why.
+    fn write(&mut self, journal: &[u8]) {
+        match self.file.write_all(journal) {
+            Ok(()) => self.is_whole = true,
+            Err(error) => {
+                let title = &self.title;
+                let _ = eprintln!(self.rt; "{title}: {error}");
+            }
+        }
     }
 
     /// Writes the journal of a checkout that is done. If it can't be written, standard error says why.
@@ -82,11 +82,11 @@ impl JournalFile {
         let Checkout::Done(run) = end else {
             return;
         };
-        match self.write(run) {
-            Ok(()) => self.is_whole = true,
-            Err(error) => {
+        match print_journal(self.rt.alloc(), run) {
+            Ok(journal) => self.write(&journal),
+            Err(AllocError) => {
                 let title = &self.title;
-                let _ = eprintln!(self.rt; "{title}: {error}");
+                let _ = eprintln!(self.rt; "{title}: out of memory");
             }
         }
     }
