@@ -6,7 +6,6 @@ mod journal;
 mod laws;
 mod rehearsed;
 mod run;
-mod status;
 mod words;
 
 pub use journal::print_journal;
