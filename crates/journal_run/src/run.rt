@@ -18,8 +18,8 @@ use std::alloc::Global;
 use std::sync::Wait;
 use std::thread::Threads;
 
-/// Judges a file, and writes what is found of it.
-fn show_audit<B: Blob, O: Sink>(alloc: Global, text: &mut B, out: &mut O) -> ExitStatus
+/// The audit of a file: judges it, and writes what is found.
+pub fn show_audit<B: Blob, O: Sink>(alloc: Global, text: &mut B, out: &mut O) -> ExitStatus
     ensures told { B.told text.new ≡ B.told text.old }
     ensures kept { B.seen text.new ≡ record (B.seen text.old) { faults = (B.seen text.new).faults } }
     ensures still { (result ≡ ReadFault) ⊎ (B.seen text.new ≡ B.seen text.old) }
