@@ -1,4 +1,4 @@
-//! A worktree from an index and its objects.
+//! Checkouts by values: a repository's plan, the run that writes its paths, and the report that is said of it.
 #![tactic(auto)]
 
 mod command;

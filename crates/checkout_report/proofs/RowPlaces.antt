@@ -1,6 +1,7 @@
 -- The rows of a report, by their places, and as a text.
-use Rattle.std.proofs.Common.{◌≡◌, ℕ, zero, suc, ◌+◌, ◌<◌, List, [], ◌∷◌, ◌++◌, length, min, Option, Some, None, refl, sym, ap, ◌∙◌, append_assoc, append-nil, arith, slice_get, unwrap_or, codes, count_by}
+use Rattle.std.proofs.Common.{◌≡◌, ℕ, zero, suc, ◌+◌, ◌<◌, List, [], ◌∷◌, ◌++◌, length, min, Option, Some, None, Result, Ok, Err, IfOk, refl, sym, ap, ◌∙◌, append_assoc, append-nil, arith, slice_get, unwrap_or, codes, count_by}
 use Rattle.std.specs.Fmt.{decimal}
+use Rattle.std.specs.Global.{Vec}
 use Rattle.std.proofs.lemmas.Grind.{flat_map-append}
 use Rattle.checkout_core.specs.declared.verdict.Verdict.{Verdict}
 use Rattle.checkout_core.specs.declared.verdict.Verdict.TheVariants as verdict
@@ -8,8 +9,9 @@ use Rattle.edge_kit.specs.declared.leaf_state.Mark.{Mark}
 use Rattle.edge_kit.specs.declared.leaf_state.Mark.TheVariants as mark
 use Rattle.byte_path.specs.Characters.{space, line_feed}
 use Rattle.byte_path.specs.Quote.{quoted}
-use Rattle.reports.specs.Fields.{word, flag, Field, field, Number, numbered}
+use Rattle.reports.specs.Fields.{word, flag, field, Number, numbered}
 use Rattle.reports.specs.Forms as forms
+use Rattle.reports.specs.Fronts.{FrontsGrow}
 use Rattle.reports.specs.Lines.{word_of as said, front_of, numbers_of}
 use Rattle.reports.specs.declared.form.ReportForm.{ReportForm}
 use Rattle.reports.specs.declared.form.ReportForm.TheVariants.{Text}
@@ -17,7 +19,7 @@ use Rattle.reports.specs.Written.{joined}
 use Rattle.checkout_report.specs.declared.report.ReportPath.{ReportPath}
 use Rattle.checkout_report.specs.Report.{word_of, mark_word, note_of, cause_of, line_of, lines_of, numbers_line, done_line, report_of}
 use Rattle.checkout_report.specs.Report.{is_written, is_unfiltered, is_failed, is_skipped}
-use Rattle.checkout_report.specs.Rows.{mark_shown, is_unencoded, cause_shown, fields_of, report_row, path_rows, counted, numbers_row, done_row, report_rows}
+use Rattle.checkout_report.specs.Rows.{mark_shown, is_unencoded, cause_shown, fields_of, report_row, path_rows, counted, numbers_row, done_row, report_rows, ReportsAreRows}
 
 length_with : (form : ReportForm) (ps : List ReportPath) (vs : List Verdict) (last : List ℕ)
     → length (path_rows form ps vs ++ last ∷ []) ≡ min (length ps) (length vs) + 1
@@ -90,23 +92,15 @@ note_says (verdict.Failed cause) = refl
 note_says verdict.NoMemory = refl
 note_says (verdict.Skipped cause) = refl
 
-mark_says : (m : Mark) → said (mark_shown m) ≡ mark_word m
+pub mark_says : (m : Mark) → said (mark_shown m) ≡ mark_word m
 mark_says mark.Plain = refl
 mark_says mark.Executable = refl
 mark_says mark.LinkText = refl
 
--- one more word before what follows it
-front_on : (f : Field) (fs : List Field) (w rest rest' : List ℕ) → said f.shows ≡ w → front_of fs ++ rest ≡ rest'
-    → front_of (f ∷ fs) ++ rest ≡ w ++ space ∷ rest'
-front_on f fs w rest rest' is then =
-    append_assoc (said f.shows ++ space ∷ []) (front_of fs) rest
-    ∙ append_assoc (said f.shows) (space ∷ []) (front_of fs ++ rest)
-    ∙ ap (λ (x : List ℕ). x ++ space ∷ (front_of fs ++ rest)) is ∙ ap (λ (x : List ℕ). w ++ space ∷ x) then
-
 -- the words of a line before what follows them
-words_before : (m : Mark) (v : Verdict) (rest : List ℕ) → front_of (fields_of m v) ++ rest
+words_before : FrontsGrow → (m : Mark) (v : Verdict) (rest : List ℕ) → front_of (fields_of m v) ++ rest
     ≡ word_of v ++ space ∷ (mark_word m ++ space ∷ (note_of v ++ space ∷ (cause_of v ++ space ∷ rest)))
-words_before m v rest =
+words_before front_on m v rest =
     let cause = field (codes "cause") (cause_shown v) in
     let note = field (codes "unencoded") (flag (codes "unencoded") (is_unencoded v)) in
     let mark = field (codes "mark") (mark_shown m) in
@@ -122,18 +116,18 @@ to_the_right a b c d e end =
     ∙ append_assoc (a ++ space ∷ b) (space ∷ c) (space ∷ (d ++ space ∷ (e ++ end)))
     ∙ append_assoc a (space ∷ b) (space ∷ (c ++ space ∷ (d ++ space ∷ (e ++ end))))
 
-row_line : (p : ReportPath) (v : Verdict) → report_row Text p.path p.mark v ≡ line_of p v
+row_line : FrontsGrow → (p : ReportPath) (v : Verdict) → report_row Text p.path p.mark v ≡ line_of p v
 unfolding forms.path_row
-row_line p v =
-    words_before p.mark v (quoted p.path ++ line_feed ∷ [])
+row_line law p v =
+    words_before law p.mark v (quoted p.path ++ line_feed ∷ [])
     ∙ sym (to_the_right (word_of v) (mark_word p.mark) (note_of v) (cause_of v) (quoted p.path) (line_feed ∷ []))
 
-path_lines : (ps : List ReportPath) (vs : List Verdict) → joined (path_rows Text ps vs) ≡ lines_of ps vs
-path_lines [] vs = refl
-path_lines (p ∷ ps) [] = refl
-path_lines (p ∷ ps) (v ∷ vs) =
-    ap (λ (line : List ℕ). line ++ joined (path_rows Text ps vs)) (row_line p v)
-    ∙ ap (λ (rest : List ℕ). line_of p v ++ rest) (path_lines ps vs)
+path_lines : FrontsGrow → (ps : List ReportPath) (vs : List Verdict) → joined (path_rows Text ps vs) ≡ lines_of ps vs
+path_lines law [] vs = refl
+path_lines law (p ∷ ps) [] = refl
+path_lines law (p ∷ ps) (v ∷ vs) =
+    ap (λ (line : List ℕ). line ++ joined (path_rows Text ps vs)) (row_line law p v)
+    ∙ ap (λ (rest : List ℕ). line_of p v ++ rest) (path_lines law ps vs)
 
 number_on : (n : Number) (ns : List Number) (rest rest' : List ℕ) → numbers_of ns ++ rest ≡ rest'
     → numbers_of (n ∷ ns) ++ rest ≡ space ∷ (decimal n.number ++ rest')
@@ -158,11 +152,16 @@ numbers_line_is vs =
     numbers_text (count_by is_written vs) (count_by is_unfiltered vs) (count_by is_failed vs) (count_by is_skipped vs)
 
 -- the rows of the text are the report
-pub text_rows : (ps : List ReportPath) (vs : List Verdict) → joined (report_rows Text ps vs) ≡ report_of ps vs
-text_rows ps vs =
+pub text_rows : FrontsGrow → (ps : List ReportPath) (vs : List Verdict) → joined (report_rows Text ps vs) ≡ report_of ps vs
+text_rows law ps vs =
     flat_map-append (λ (row : List ℕ). row) (path_rows Text ps vs) (done_row Text vs ∷ [])
-    ∙ ap (λ (front : List ℕ). front ++ (done_row Text vs ++ [])) (path_lines ps vs)
+    ∙ ap (λ (front : List ℕ). front ++ (done_row Text vs ++ [])) (path_lines law ps vs)
     ∙ ap (λ (last : List ℕ). lines_of ps vs ++ last) (append-nil (done_row Text vs) ∙ numbers_line_is vs)
+
+pub text_of : {E : Type 0} → ReportsAreRows → (ps : List ReportPath) (vs : List Verdict) (r : Result (Vec ℕ) E)
+    → IfOk r (λ v. v.items ≡ joined (report_rows Text ps vs)) → IfOk r (λ v. v.items ≡ report_of ps vs)
+text_of law ps vs (Ok v) is = is ∙ law.text ps vs
+text_of law ps vs (Err e) is = is
 
 -- a row of the text ends in LF
 ends_line : (p : ReportPath) (v : Verdict) → (front : List ℕ) × (report_row Text p.path p.mark v ≡ front ++ line_feed ∷ [])

@@ -10,9 +10,10 @@ use Rattle.reports.specs.declared.form.ReportForm.{ReportForm}
 use Rattle.reports.specs.declared.form.ReportForm.TheVariants.{Text}
 use Rattle.reports.specs.Fields.{Shown, word, absent, flag, Field, field, Number, numbered}
 use Rattle.reports.specs.Forms.{path_row, total_row}
+use Rattle.reports.specs.Lines.{word_of as said}
 use Rattle.reports.specs.Written.{joined}
 use Rattle.checkout_report.specs.declared.report.ReportPath.{ReportPath}
-use Rattle.checkout_report.specs.Report.{word_of, report_of}
+use Rattle.checkout_report.specs.Report.{word_of, mark_word, report_of}
 use Rattle.checkout_report.specs.Report.{is_written, is_unfiltered, is_failed, is_skipped}
 
 abbrev pub mark_shown : Mark → Shown
@@ -71,7 +72,7 @@ done_row form vs =
 abbrev pub report_rows : ReportForm → List ReportPath → List Verdict → List (List ℕ)
 report_rows form ps vs = path_rows form ps vs ++ done_row form vs ∷ []
 
--- What rows of a report stand where. Those of the text are the report, and each ends in LF.
+-- What rows of a report stand where. Those of the text are the report, and each ends in LF. A mark says its word.
 pub record ReportsAreRows : Type 0 where
   pub count : (form : ReportForm) (ps : List ReportPath) (vs : List Verdict)
       → length (report_rows form ps vs) ≡ min (length ps) (length vs) + 1
@@ -86,3 +87,4 @@ pub record ReportsAreRows : Type 0 where
   pub text : (ps : List ReportPath) (vs : List Verdict) → joined (report_rows Text ps vs) ≡ report_of ps vs
   pub lines : (ps : List ReportPath) (vs : List Verdict) (k : ℕ) (row : List ℕ)
       → slice_get (report_rows Text ps vs) k ≡ Some row → (front : List ℕ) × (row ≡ front ++ line_feed ∷ [])
+  pub marks : (m : Mark) → said (mark_shown m) ≡ mark_word m

@@ -2,6 +2,7 @@ ghost use Rattle.std.specs.Prelude.{◌≡◌, ◌++◌, ◌∷◌, IfOk, OnOk, 
 ghost use Rattle.checkout_report.specs.Report.{is_written, is_unfiltered, is_failed, is_skipped};
 ghost use Rattle.checkout_report.specs.Report.{line_of, numbers_line, done_line, report_of};
 
+use crate::laws::reports_are_rows;
 use crate::rows::Report;
 use byte_path::Bytes;
 use checkout_core::Verdict;
@@ -72,7 +73,6 @@ pub fn skipped_count(verdicts: &[Verdict]) -> usize
 /// The report of a checkout: a line for each path with its verdict, and the line of the numbers.
 ///
 /// A line is a word, a mark, a note, a cause and the quoted path, with a space between.
-#[tactic(auto, using(crate::proofs::RowPlaces::text_rows))]
 pub fn report_text(
     alloc: Global,
     paths: &[ReportPath],
@@ -81,5 +81,6 @@ pub fn report_text(
     requires { length paths.now ≡ length verdicts.now }
     ensures { IfOk result (λ v. v.items ≡ report_of paths.now verdicts.now) }
 {
+    reports_are_rows();
     joined_rows(alloc, ReportForm::Text, &Report { paths, verdicts })
 }

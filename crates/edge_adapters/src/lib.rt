@@ -12,6 +12,7 @@ mod front;
 mod given_up;
 mod leaf_place;
 mod output_sink;
+mod past;
 mod paths;
 mod patient;
 mod process_link;
@@ -33,6 +34,7 @@ pub use folders::{
 };
 pub use leaf_place::LeafPlace;
 pub use output_sink::OutputSink;
+pub use past::Past;
 pub use paths::path_in;
 pub use process_link::ProcessLink;
 pub use process_once::{ProcessOnce, ProcessOnceMaker};

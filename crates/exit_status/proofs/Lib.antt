@@ -1,2 +1,1 @@
-mod Growth
 mod Pieces

@@ -1,4 +1,4 @@
--- what `ExitStatus`, `say` and `say_lines` promise
+-- what `ExitStatus`, `say` and `say_rows` promise
 pub mod Status
 pub mod Output
 pub mod Said

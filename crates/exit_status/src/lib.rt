@@ -4,5 +4,5 @@
 mod output;
 mod status;
 
-pub use output::{say, say_lines, say_rows};
+pub use output::{say, say_rows};
 pub use status::ExitStatus;

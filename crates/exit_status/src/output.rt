@@ -1,26 +1,11 @@
-//! Writes a text to the sink, in one piece, line by line or row by row.
-ghost use Rattle.std.specs.Prelude.{◌≡◌, ◌≤◌, ◌<◌, length, take};
-ghost use Rattle.exit_status.specs.Output.{EndsLine, IsLineCut};
+//! Writes a text to the sink, in one piece or row by row.
+ghost use Rattle.std.specs.Prelude.{◌≡◌};
 ghost use Rattle.exit_status.specs.Said.{Says, SaysRows, Unsaid, cut_off, said};
 
 use crate::status::ExitStatus;
 use edge_kit::{SendFault, Sink};
-use memchr::memchr;
 use reports::{ReportForm, Rows, write_rows};
 use std::alloc::Global;
-
-/// The length of the first line, with its LF.
-fn line_len(text: &[u8]) -> usize
-    requires { 0 < length text.now }
-    ensures some { 0 < result }
-    ensures within { result ≤ length text.now }
-    ensures ended { result < length text.now → EndsLine (take result text.now) }
-{
-    match memchr(b'\n', text) {
-        Some(end) => end + 1,
-        None => text.len(),
-    }
-}
 
 /// The status of a text that the sink cut off, and that has this one if it is written whole.
 fn cut_off(status: ExitStatus) -> ExitStatus
@@ -48,22 +33,6 @@ pub fn say<O: Sink>(out: &mut O, text: &[u8], status: ExitStatus) -> ExitStatus
     ensures { Says Unsaid text.now status (O.seen out.old) (O.seen out.new) result }
 {
     said(out.write(text), status)
-}
-
-/// Says a text line by line: the status is this one if the text is written whole.
-pub fn say_lines<O: Sink>(out: &mut O, text: &[u8], status: ExitStatus) -> ExitStatus
-    ensures { Says IsLineCut text.now status (O.seen out.old) (O.seen out.new) result }
-{
-    let mut start = 0;
-    while start < text.len() {
-        let (_, rest) = text.split_at(start);
-        let (line, _) = rest.split_at(line_len(rest));
-        match out.write(line) {
-            Ok(()) => start += line.len(),
-            Err(fault) => return said(Err(fault), status),
-        }
-    }
-    status
 }
 
 /// Says rows in a form, one by one: the status is this one if they are written whole.

@@ -4,14 +4,14 @@ use Rattle.std.specs.Fmt.{decimal}
 use Rattle.byte_path.specs.Characters.{line_feed}
 use Rattle.edge_kit.specs.Faults.{Rose}
 use Rattle.edge_kit.specs.Told.{Told, TellsBytes, TellsNone, TellsLong, MayFail}
+use Rattle.exit_status.specs.declared.status.ExitStatus.{ExitStatus}
+use Rattle.exit_status.specs.declared.status.ExitStatus.TheVariants as status
 use Rattle.journal_audit.specs.Audits.{IsAudit}
 use Rattle.journal_audit.specs.declared.answer.Audit.TheVariants.{Legal, Illegal, Unreadable}
 use Rattle.journal_run.specs.declared.finding.FindFault.{FindFault}
 use Rattle.journal_run.specs.declared.finding.FindFault.TheVariants as fault
 use Rattle.journal_run.specs.declared.finding.Finding.{Finding}
 use Rattle.journal_run.specs.declared.finding.Finding.TheVariants.{Absent, TooLarge, Audited}
-use Rattle.journal_run.specs.declared.status.JournalStatus.{JournalStatus}
-use Rattle.journal_run.specs.declared.status.JournalStatus.TheVariants as status
 
 -- the most bytes of a journal that is judged
 abbrev pub text_limit : ℕ
@@ -25,11 +25,11 @@ IsFinding told (Audited a) =
     (text : List ℕ) × TellsBytes told text × (length text ≤ text_limit) × IsAudit text a
 
 -- the status that goes with a finding
-abbrev pub status_of : Finding → JournalStatus
-status_of Absent = status.Unreadable
-status_of TooLarge = status.Unreadable
-status_of (Audited (Unreadable line)) = status.Unreadable
-status_of (Audited (Illegal line)) = status.Illegal
+abbrev pub status_of : Finding → ExitStatus
+status_of Absent = status.Refused
+status_of TooLarge = status.Refused
+status_of (Audited (Unreadable line)) = status.Refused
+status_of (Audited (Illegal line)) = status.DoneWithFailures
 status_of (Audited (Legal events unclosed)) = status.Done
 
 -- the line that says it

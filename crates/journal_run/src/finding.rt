@@ -3,8 +3,8 @@ ghost use Rattle.std.specs.Prelude.{◌≡◌, ◌⊎◌, Err, IfOk, string_byte
 ghost use Rattle.journal_run.specs.declared.finding.FindFault.TheVariants.{NoMemory, ReadFault};
 ghost use Rattle.journal_run.specs.Findings.{finding_line, status_of, Finds};
 
-use crate::status::JournalStatus;
 use edge_kit::{Blob, TakeFault};
+use exit_status::ExitStatus;
 use journal_audit::{Audit, audit};
 use std::alloc::{AllocError, Global};
 
@@ -38,14 +38,14 @@ impl From<AllocError> for FindFault {
 }
 
 /// The status that goes with a finding.
-pub fn status_of(finding: Finding) -> JournalStatus
+pub fn status_of(finding: Finding) -> ExitStatus
     ensures { result ≡ status_of finding }
 {
     match finding {
-        Finding::Absent | Finding::TooLarge => JournalStatus::Unreadable,
-        Finding::Audited(Audit::Unreadable { .. }) => JournalStatus::Unreadable,
-        Finding::Audited(Audit::Illegal { .. }) => JournalStatus::Illegal,
-        Finding::Audited(Audit::Legal { .. }) => JournalStatus::Done,
+        Finding::Absent | Finding::TooLarge => ExitStatus::Refused,
+        Finding::Audited(Audit::Unreadable { .. }) => ExitStatus::Refused,
+        Finding::Audited(Audit::Illegal { .. }) => ExitStatus::DoneWithFailures,
+        Finding::Audited(Audit::Legal { .. }) => ExitStatus::Done,
     }
 }
 

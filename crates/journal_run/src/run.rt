@@ -3,34 +3,23 @@ ghost use Rattle.std.specs.Prelude.{◌≡◌, ◌⊎◌, ◌≤◌, ◌<◌, �
 ghost use Rattle.edge_kit.specs.Faults.{Rose};
 ghost use Rattle.edge_kit.specs.Seen.{BlobSeen};
 ghost use Rattle.edge_kit.specs.Told.{Told};
-ghost use Rattle.journal_run.specs.declared.status.JournalStatus.TheVariants.{Done, Illegal, ReadFault, Unreadable};
+ghost use Rattle.exit_status.specs.declared.status.ExitStatus.TheVariants.{Done, DoneWithFailures, ReadFault, Refused};
 ghost use Rattle.journal_run.specs.declared.words.JournalTask.{JournalTask};
 ghost use Rattle.journal_run.specs.declared.words.JournalTask.TheVariants.{Audit, Rehearsal};
 ghost use Rattle.journal_run.specs.Words.{asked};
-ghost use Rattle.journal_run.specs.Ends.{Ends, EndsForm, IsAnswered, IsAnsweredBy, IsCutOff, IsUnread, Writes};
+ghost use Rattle.journal_run.specs.Ends.{Ends, EndsForm, IsAnswered, IsAnsweredBy, IsCutOff, IsUnread};
 
 use crate::finding::{FindFault, find, finding_line, status_of};
 use crate::rehearsed::rehearsal_journal;
-use crate::status::{JournalStatus, number_of};
 use crate::words::{JournalTask, task_of};
-use edge_kit::{Blob, Gate, SendFault, Sink};
+use edge_kit::{Blob, Gate, Sink};
+use exit_status::{ExitStatus, say};
 use std::alloc::Global;
 use std::sync::Wait;
 use std::thread::Threads;
 
-/// Writes an answer in one piece: the status that goes with it, if it is written whole.
-fn write_answer<O: Sink>(out: &mut O, answer: &[u8], status: JournalStatus) -> JournalStatus
-    ensures { Writes status answer.now (O.seen out.old) (O.seen out.new) result }
-{
-    match out.write(answer) {
-        Ok(()) => status,
-        Err(SendFault::Failed) => JournalStatus::OutputNotWritten,
-        Err(SendFault::NoMemory) => JournalStatus::OutOfMemory,
-    }
-}
-
-/// Judges a file, and writes what is found of it.
-fn show_audit<B: Blob, O: Sink>(alloc: Global, text: &mut B, out: &mut O) -> JournalStatus
+/// The audit of a file: judges it, and writes what is found.
+pub fn show_audit<B: Blob, O: Sink>(alloc: Global, text: &mut B, out: &mut O) -> ExitStatus
     ensures told { B.told text.new ≡ B.told text.old }
     ensures kept { B.seen text.new ≡ record (B.seen text.old) { faults = (B.seen text.new).faults } }
     ensures still { (result ≡ ReadFault) ⊎ (B.seen text.new ≡ B.seen text.old) }
@@ -39,13 +28,13 @@ fn show_audit<B: Blob, O: Sink>(alloc: Global, text: &mut B, out: &mut O) -> Jou
 {
     let finding = match find(alloc, text) {
         Ok(finding) => finding,
-        Err(FindFault::ReadFault) => return JournalStatus::ReadFault,
-        Err(FindFault::NoMemory) => return JournalStatus::OutOfMemory,
+        Err(FindFault::ReadFault) => return ExitStatus::ReadFault,
+        Err(FindFault::NoMemory) => return ExitStatus::OutOfMemory,
     };
     let Ok(line) = finding_line(alloc, finding) else {
-        return JournalStatus::OutOfMemory;
+        return ExitStatus::OutOfMemory;
     };
-    write_answer(out, line.as_bytes(), status_of(finding))
+    say(out, line.as_bytes(), status_of(finding))
 }
 
 /// Rehearses so many paths, and writes the journal of that.
@@ -56,15 +45,15 @@ fn show_journal<G: Gate, O: Sink, H: Threads + Wait + Sync>(
     paths: u32,
     gate: &G,
     out: &mut O,
-) -> JournalStatus
+) -> ExitStatus
     requires { paths ≤ 99999 }
     ensures { (told : Told) (text : BlobSeen) → EndsForm (Rehearsal seed paths) told text text
         (O.seen out.old) (O.seen out.new) result }
 {
     let Ok(journal) = rehearsal_journal(rt, alloc, seed, paths, gate) else {
-        return JournalStatus::OutOfMemory;
+        return ExitStatus::OutOfMemory;
     };
-    write_answer(out, &journal, JournalStatus::Done)
+    say(out, &journal, ExitStatus::Done)
 }
 
 /// Does what the words ask for.
@@ -75,7 +64,7 @@ fn obey<B: Blob, G: Gate, O: Sink, H: Threads + Wait + Sync>(
     text: &mut B,
     gate: &G,
     out: &mut O,
-) -> JournalStatus
+) -> ExitStatus
     ensures told { B.told text.new ≡ B.told text.old }
     ensures kept { B.seen text.new ≡ record (B.seen text.old) { faults = (B.seen text.new).faults } }
     ensures still { (result ≡ ReadFault) ⊎ (B.seen text.new ≡ B.seen text.old) }
@@ -87,7 +76,7 @@ fn obey<B: Blob, G: Gate, O: Sink, H: Threads + Wait + Sync>(
         Some(JournalTask::Rehearsal { seed, paths }) => show_journal(
             rt, alloc, seed, paths, gate, out,
         ),
-        None => JournalStatus::Usage,
+        None => ExitStatus::Usage,
     }
 }
 
@@ -115,13 +104,13 @@ pub fn journal_run<B: Blob, G: Gate, O: Sink, H: Threads + Wait + Sync>(
         → IsAnswered Audit (B.told text.old) Done (O.seen out.old) (O.seen out.new) }
     // 1: `audit` was asked for, an event of the text isn't legal, and the line that names it was written whole.
     ensures illegal { result ≡ 1 → (asked words.now ≡ Some Audit)
-        × IsAnswered Audit (B.told text.old) Illegal (O.seen out.old) (O.seen out.new) }
+        × IsAnswered Audit (B.told text.old) DoneWithFailures (O.seen out.old) (O.seen out.new) }
     // 2 comes exactly where the words ask for neither.
     ensures usage { (result ≡ 2) ↔ (asked words.now ≡ None) }
     // 3: `audit` was asked for, there is no text, or it is too large or no journal, and the line that says so was
     // written whole.
     ensures unreadable { result ≡ 3 → (asked words.now ≡ Some Audit)
-        × IsAnswered Audit (B.told text.old) Unreadable (O.seen out.old) (O.seen out.new) }
+        × IsAnswered Audit (B.told text.old) Refused (O.seen out.old) (O.seen out.new) }
     // 4: the sink failed, and a first part of the answer was written.
     ensures cut_off { (form : JournalTask) → asked words.now ≡ Some form → result ≡ 4
         → IsCutOff form (B.told text.old) (O.seen out.old) (O.seen out.new) }
@@ -146,5 +135,5 @@ pub fn journal_run<B: Blob, G: Gate, O: Sink, H: Threads + Wait + Sync>(
     ensures unasked { asked words.now ≡ None
         → (B.seen text.new ≡ B.seen text.old) × (O.seen out.new ≡ O.seen out.old) }
 {
-    number_of(obey(rt, alloc, words, text, gate, out))
+    obey(rt, alloc, words, text, gate, out).number()
 }

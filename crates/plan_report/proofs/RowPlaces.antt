@@ -5,17 +5,16 @@ use Rattle.std.proofs.lemmas.Grind.{flat_map-append}
 use Rattle.checkout_core.specs.declared.path.Start.{Start}
 use Rattle.checkout_core.specs.declared.path.Start.TheVariants as start
 use Rattle.checkout_report.specs.Report.{mark_word}
-use Rattle.checkout_report.specs.Rows.{mark_shown}
-use Rattle.edge_kit.specs.declared.leaf_state.Mark.{Mark}
-use Rattle.edge_kit.specs.declared.leaf_state.Mark.TheVariants as mark
+use Rattle.checkout_report.specs.Rows.{mark_shown, ReportsAreRows}
 use Rattle.eol_convert.specs.Action.{ends_of}
 use Rattle.eol_convert.specs.declared.setting.LineEnds.{LineEnds}
 use Rattle.eol_convert.specs.declared.setting.LineEnds.TheVariants.{Keep, ToCrlf, AutoCrlf}
 use Rattle.tree_encoding.specs.declared.encoding.Encoding.{Encoding}
 use Rattle.byte_path.specs.Characters.{space, line_feed}
 use Rattle.byte_path.specs.Quote.{quoted}
-use Rattle.reports.specs.Fields.{word, flag, Field, field}
+use Rattle.reports.specs.Fields.{word, flag, field}
 use Rattle.reports.specs.Forms as forms
+use Rattle.reports.specs.Fronts.{FrontsGrow}
 use Rattle.reports.specs.Lines.{word_of as said, front_of}
 use Rattle.settings_view.specs.declared.view.Driver.{Driver}
 use Rattle.checkout_plan.specs.declared.path_plan.PathPlan.{PathPlan}
@@ -74,25 +73,12 @@ driver_says drivers (start.Desk driver required) = refl
 driver_says drivers start.Pool = refl
 driver_says drivers (start.Done v) = refl
 
-mark_says : (m : Mark) → said (mark_shown m) ≡ mark_word m
-mark_says mark.Plain = refl
-mark_says mark.Executable = refl
-mark_says mark.LinkText = refl
-
--- one more word before what follows it
-front_on : (f : Field) (fs : List Field) (w rest rest' : List ℕ) → said f.shows ≡ w → front_of fs ++ rest ≡ rest'
-    → front_of (f ∷ fs) ++ rest ≡ w ++ space ∷ rest'
-front_on f fs w rest rest' is then =
-    append_assoc (said f.shows ++ space ∷ []) (front_of fs) rest
-    ∙ append_assoc (said f.shows) (space ∷ []) (front_of fs ++ rest)
-    ∙ ap (λ (x : List ℕ). x ++ space ∷ (front_of fs ++ rest)) is ∙ ap (λ (x : List ℕ). w ++ space ∷ x) then
-
 -- the words of a line before what follows them
-words_before : (drivers : List Driver) (p : PathPlan) (rest : List ℕ) → front_of (fields_of drivers p) ++ rest
+words_before : FrontsGrow → ReportsAreRows → (drivers : List Driver) (p : PathPlan) (rest : List ℕ) → front_of (fields_of drivers p) ++ rest
     ≡ (let c = shown_conversion p.start p.conversion in state_word p.start ++ space ∷ (mark_word p.mark ++ space ∷ (ends_word (ends_of c.action) ++ space ∷
     (ident_word c.ident ++ space ∷ (encoding_word c.encoding ++ space ∷ (need_word p.start ++ space ∷
     (driver_word drivers p.start ++ space ∷ rest)))))))
-words_before drivers p rest =
+words_before front_on reports drivers p rest =
     let c = shown_conversion p.start p.conversion in
     let driver = field (codes "driver") (driver_shown drivers p.start) in
     let need = field (codes "need") (need_shown p.start) in
@@ -102,7 +88,7 @@ words_before drivers p rest =
     let mark = field (codes "mark") (mark_shown p.mark) in
     front_on (field (codes "state") (word (state_word p.start))) (mark ∷ ends ∷ ident ∷ encoding ∷ need ∷ driver ∷ [])
     (state_word p.start) rest _ refl
-    (front_on mark (ends ∷ ident ∷ encoding ∷ need ∷ driver ∷ []) (mark_word p.mark) rest _ (mark_says p.mark)
+    (front_on mark (ends ∷ ident ∷ encoding ∷ need ∷ driver ∷ []) (mark_word p.mark) rest _ (reports.marks p.mark)
     (front_on ends (ident ∷ encoding ∷ need ∷ driver ∷ []) (ends_word (ends_of c.action)) rest _ (ends_say (ends_of c.action))
     (front_on ident (encoding ∷ need ∷ driver ∷ []) (ident_word c.ident) rest _ (ident_says c.ident)
     (front_on encoding (need ∷ driver ∷ []) (encoding_word c.encoding) rest _ (encoding_says c.encoding)
@@ -127,31 +113,31 @@ columns_right s m c n rest =
     (append_assoc c (space ∷ (n ++ space ∷ [])) rest
     ∙ ap (λ (x : List ℕ). c ++ space ∷ x) (append_assoc n (space ∷ []) rest)))
 
-row_line : (drivers : List Driver) (p : PathPlan) → plan_row Text drivers p ≡ line_of drivers p
+row_line : FrontsGrow → ReportsAreRows → (drivers : List Driver) (p : PathPlan) → plan_row Text drivers p ≡ line_of drivers p
 unfolding forms.path_row
-row_line drivers p =
+row_line law reports drivers p =
     let c = shown_conversion p.start p.conversion in
     let end = driver_word drivers p.start ++ space ∷ (quoted p.path ++ line_feed ∷ []) in
-    words_before drivers p (quoted p.path ++ line_feed ∷ [])
+    words_before law reports drivers p (quoted p.path ++ line_feed ∷ [])
     ∙ sym (columns_right (state_word p.start) (mark_word p.mark) (conversion_words c) (need_word p.start) end
     ∙ ap (λ (x : List ℕ). state_word p.start ++ space ∷ (mark_word p.mark ++ space ∷ x))
     (conversion_right (ends_word (ends_of c.action)) (ident_word c.ident) (encoding_word c.encoding)
     (need_word p.start ++ space ∷ end)))
 
-path_lines : (drivers : List Driver) (ps : List PathPlan) → joined (map (plan_row Text drivers) ps) ≡ flat_map (line_of drivers) ps
-path_lines drivers [] = refl
-path_lines drivers (p ∷ ps) =
-    ap (λ (line : List ℕ). line ++ joined (map (plan_row Text drivers) ps)) (row_line drivers p)
-    ∙ ap (λ (rest : List ℕ). line_of drivers p ++ rest) (path_lines drivers ps)
+path_lines : FrontsGrow → ReportsAreRows → (drivers : List Driver) (ps : List PathPlan) → joined (map (plan_row Text drivers) ps) ≡ flat_map (line_of drivers) ps
+path_lines law reports drivers [] = refl
+path_lines law reports drivers (p ∷ ps) =
+    ap (λ (line : List ℕ). line ++ joined (map (plan_row Text drivers) ps)) (row_line law reports drivers p)
+    ∙ ap (λ (rest : List ℕ). line_of drivers p ++ rest) (path_lines law reports drivers ps)
 
 last_is : (skipped : ℕ) → skipped_row Text skipped ≡ last_line skipped
 unfolding forms.number_row
 last_is skipped = refl
 
 -- the rows of the text are the plan's lines
-pub text_rows : (plan : Plan) → joined (plan_rows Text plan) ≡ plan_lines plan
-text_rows plan =
+pub text_rows : FrontsGrow → ReportsAreRows → (plan : Plan) → joined (plan_rows Text plan) ≡ plan_lines plan
+text_rows law reports plan =
     flat_map-append (λ (row : List ℕ). row) (map (plan_row Text plan.drivers) plan.paths) (skipped_row Text plan.skipped_lines ∷ [])
-    ∙ ap (λ (front : List ℕ). front ++ (skipped_row Text plan.skipped_lines ++ [])) (path_lines plan.drivers plan.paths)
+    ∙ ap (λ (front : List ℕ). front ++ (skipped_row Text plan.skipped_lines ++ [])) (path_lines law reports plan.drivers plan.paths)
     ∙ ap (λ (last : List ℕ). flat_map (line_of plan.drivers) plan.paths ++ last)
     (append-nil (skipped_row Text plan.skipped_lines) ∙ last_is plan.skipped_lines)

@@ -1,4 +1,4 @@
-//! The plan of a checkout as rows, and its text.
+//! The plan of a checkout as rows, which say its text.
 #![tactic(auto)]
 
 mod cells;
@@ -6,4 +6,4 @@ mod laws;
 mod rows;
 
 pub use laws::text_is_plan;
-pub use rows::{PlanRows, plan_lines};
+pub use rows::PlanRows;

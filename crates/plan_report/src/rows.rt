@@ -1,7 +1,6 @@
 //! The plan as rows.
 ghost use Rattle.std.specs.Prelude.{◌≡◌, IfOk, length};
 ghost use Rattle.reports.specs.Fields.{shown, field, field_of};
-ghost use Rattle.plan_report.specs.Lines.{plan_lines};
 ghost use Rattle.plan_report.specs.Rows.{plan_row, skipped_row, plan_rows};
 
 use crate::cells::{
@@ -9,7 +8,7 @@ use crate::cells::{
 };
 use checkout_plan::{PathPlan, Plan};
 use checkout_report::mark_value;
-use reports::{Cell, CellValue, PathRow, ReportForm, Row, Rows, joined_rows, spelled};
+use reports::{Cell, CellValue, PathRow, ReportForm, Row, Rows, spelled};
 use settings_view::Driver;
 use std::alloc::{AllocError, Global};
 
@@ -81,15 +80,4 @@ impl<'a> Rows for PlanRows<'a> {
             None => skipped_row(alloc, form, plan.skipped_lines),
         }
     }
-}
-
-/// The text of a plan: a line for each path, in order, and how many attribute lines were skipped.
-///
-/// A line is a state, a mark, line ends, ident, an encoding, a need, a driver and the path, with a space between. A
-/// driver's name is quoted as a path is.
-#[tactic(auto, using(crate::proofs::RowPlaces::text_rows))]
-pub fn plan_lines(alloc: Global, plan: &Plan) -> Result<Vec<u8>, AllocError>
-    ensures { IfOk result (λ v. v.items ≡ plan_lines plan.now) }
-{
-    joined_rows(alloc, ReportForm::Text, &PlanRows { plan })
 }

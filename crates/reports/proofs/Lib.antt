@@ -1,3 +1,4 @@
 mod FirstRows
+mod Fronts
 mod Joined
 mod Texts

@@ -9,6 +9,6 @@ mod row;
 mod rows;
 
 pub use form::{ReportForm, spelled};
-pub use laws::first_rows_are_a_part;
+pub use laws::{first_rows_are_a_part, fronts_grow};
 pub use row::{Cell, CellValue, Count, PathRow, Row};
 pub use rows::{Rows, joined_rows, write_rows};

@@ -1,13 +1,13 @@
 //! Checks out a Git repository into an empty folder, straight from its git folder, or shows the plan of that, or checks
 //! the files of a folder in again. It also judges the journals of checkouts.
 //!
-//! Git itself is asked for the repository's index and settings, and for objects that its files don't have. Standard
-//! output has the report, in the form that the words ask for. Standard error says what is wrong with words or with the
-//! repository, why files weren't written, what a driver wrote in place of packets, and what git would do otherwise.
+//! Git itself is asked where the repository's parts are, for its settings, and for objects that its files don't have.
+//! Standard output has the report, in the form that the words ask for. Standard error says what is wrong with words or
+//! with the repository, why files weren't written, what a driver wrote in place of packets, and what git would do
+//! otherwise.
 #![tactic(auto)]
 
 mod ends;
-mod engine_words;
 mod journal;
 mod plan;
 mod rehearsed;
@@ -39,8 +39,8 @@ fn obey<H: Threads + Wait + Sync>(
         Subcommand::Checkout(asked) => check_out(rt, threads, asked),
         Subcommand::Checkin(asked) => check_in_tree(rt, threads, asked),
         Subcommand::Plan(asked) => show_plan(rt, asked),
-        Subcommand::Rehearse { seed, paths } => rehearse(rt, threads, *seed, *paths),
-        Subcommand::Audit { file } => audit(rt, threads, *file),
+        Subcommand::Rehearse { seed, paths } => Ok(rehearse(rt, threads, *seed, *paths)),
+        Subcommand::Audit { file } => audit(rt, *file),
     }
 }
 

@@ -1,10 +1,10 @@
 //! A rehearsal, which uses no folder.
-use crate::engine_words::rehearse_words;
-use checkout_engine::run;
-use edge_kit::{MemoryRepo, MemorySpawner, MemoryTree, NoGate};
+use checkout_engine::show_rehearsal;
+use checkout_paths::Means;
+use edge_kit::NoGate;
 use reports::ReportForm;
 use siuwbren_index::{end_with, sink_of};
-use std::alloc::AllocError;
+use siuwbren_words::PathCount;
 use std::sync::Wait;
 use std::thread::Threads;
 
@@ -13,25 +13,14 @@ pub fn rehearse<H: Threads + Wait + Sync>(
     rt: HostRuntime,
     threads: &H,
     seed: u64,
-    paths: u32,
-) -> Result<u8, AllocError> {
-    let alloc = rt.alloc();
-    let words = rehearse_words(alloc, seed, paths)?;
-    let mut repo = MemoryRepo::new(alloc, None, None, None, Vec::new(alloc), Vec::new(alloc));
-    let mut tree = MemoryTree::new(alloc, true, Vec::new(alloc), false);
-    let mut spawner = MemorySpawner::new(alloc, Vec::new(alloc));
+    paths: PathCount,
+) -> u8 {
+    let means = Means {
+        rt: threads,
+        alloc: rt.alloc(),
+        gate: &NoGate,
+    };
     let mut out = sink_of(rt, ReportForm::Text);
-    let mut history = Vec::new(alloc);
-    let status = run(
-        threads,
-        alloc,
-        words.as_slice(),
-        &mut repo,
-        &mut tree,
-        &mut spawner,
-        &NoGate,
-        &mut out,
-        &mut history,
-    );
-    Ok(end_with(rt, status))
+    let status = show_rehearsal(&means, seed, paths.number(), &mut out);
+    end_with(rt, status.number())
 }

@@ -1,4 +1,5 @@
 //! What the words ask the program to do.
+use crate::path_count::PathCount;
 use crate::worker_count::WorkerCount;
 use reports::ReportForm;
 
@@ -59,8 +60,8 @@ pub enum Subcommand<'a> {
     Checkin(CheckinWords<'a>),
     /// Show what a checkout would do.
     Plan(PlanWords<'a>),
-    /// Check out a made-up repository of this many paths, up to 99,999.
-    Rehearse { seed: u64, paths: u32 },
+    /// Check out a made-up repository of this many paths.
+    Rehearse { seed: u64, paths: PathCount },
     /// Judge the journal in this file.
     Audit { file: &'a str },
 }

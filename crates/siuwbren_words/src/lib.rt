@@ -6,11 +6,13 @@ mod command;
 mod commands;
 mod fault;
 mod parser;
+mod path_count;
 mod values;
 mod words_read;
 mod worker_count;
 
 pub use command::{CheckinWords, CheckoutWords, PlanWords, ProgressChoice, Subcommand};
 pub use fault::UsageFault;
+pub use path_count::PathCount;
 pub use words_read::read_words;
 pub use worker_count::WorkerCount;

@@ -7,6 +7,7 @@ ghost use Rattle.siuwbren_words.specs.Values.{is_set, workers_of, text_form, oth
 ghost use Rattle.siuwbren_words.specs.Values.{plan_form, report_form, progress_of};
 
 use crate::command::ProgressChoice;
+use crate::path_count::PathCount;
 use crate::worker_count::WorkerCount;
 use byte_path::read_decimal;
 use clap::ArgMatches;
@@ -186,7 +187,7 @@ pub fn seed_of(word: Option<&str>) -> Result<u64, Mistake<'_>>
 }
 
 /// PATHS: a decimal up to 99,999.
-pub fn paths_of(word: Option<&str>) -> Result<u32, Mistake<'_>>
+pub fn paths_of(word: Option<&str>) -> Result<PathCount, Mistake<'_>>
     ensures { result_ok result ≡ option_and_then (λ text. decimal_within text 99999)
         (option_map (λ text. text.now) word.entry) }
 {
@@ -194,7 +195,7 @@ pub fn paths_of(word: Option<&str>) -> Result<u32, Mistake<'_>>
         return Err(Mistake::NoPaths);
     };
     match read_decimal(text.as_bytes(), 99_999) {
-        Some(paths) => Ok(paths as u32),
+        Some(paths) => Ok(PathCount::new(paths as u32)),
         None => Err(Mistake::Paths(text)),
     }
 }
