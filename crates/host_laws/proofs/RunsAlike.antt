@@ -24,9 +24,9 @@ use Rattle.one_shot.specs.Starters.{is_single_run, single_starts}
 use Rattle.one_shot.specs.Spawners.{commands_tell}
 use Rattle.host_laws.specs.KeptTalks.{KeptHeard, KeptHadMemory}
 use Rattle.host_laws.specs.OnceTalks.{IsHeardOf, HearsChoice, once_request}
-use Rattle.smudge_laws.specs.SingleRuns.{run_at, AreHeard}
-use Rattle.smudge_laws.specs.RunsAlike.{RunsChangeNothing}
-use Rattle.smudge_laws.proofs.Runs.{heard_in_checkout, wants_in_checkout}
+use Rattle.host_laws.specs.SingleRuns.{run_at, AreHeard}
+use Rattle.host_laws.specs.RunsAlike.{RunsChangeNothing}
+use Rattle.host_laws.proofs.Runs.{heard_in_checkout, wants_in_checkout}
 
 -- by one choice two paths hear the same
 same_choice : (o : Option Choice) (f g : Fate) (x y : Option (List ℕ)) → HearsChoice o f x → HearsChoice o g y

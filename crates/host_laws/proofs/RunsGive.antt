@@ -18,10 +18,10 @@ use Rattle.one_shot.specs.Starters.{is_single_run}
 use Rattle.one_shot.specs.Spawners.{AllServed}
 use Rattle.host_laws.specs.KeptTalks.{KeptHeard, KeptHadMemory}
 use Rattle.host_laws.specs.OnceTalks.{IsHeardOf, HearsChoice, once_request}
-use Rattle.smudge_laws.specs.RunsGive.{EndsWell, SingleRunsGiveAll}
-use Rattle.smudge_laws.specs.SingleRuns.{run_at}
-use Rattle.smudge_laws.proofs.KeptRuns.{hears, wants_none}
-use Rattle.smudge_laws.proofs.RunsAlike.{run_is, request_is}
+use Rattle.host_laws.specs.RunsGive.{EndsWell, SingleRunsGiveAll}
+use Rattle.host_laws.specs.SingleRuns.{run_at}
+use Rattle.host_laws.proofs.KeptRuns.{hears, wants_none}
+use Rattle.host_laws.proofs.RunsAlike.{run_is, request_is}
 
 served_by_place : (xs : List (List ℕ × List Had)) (k : ℕ) (command : List ℕ) (had : List Had) → AllServed xs → slice_get xs k ≡ Some (command, had) → AreServed had
 served_by_place [] k command had all at = absurd cc

@@ -1,6 +1,6 @@
 use Rattle.std.proofs.Common.{refl}
-use Rattle.smudge_laws.proofs.Plain.{drivers_served, memory_served, processes_served, process_served}
-use Rattle.smudge_laws.proofs.served.spawners_below_are_plain.Goals as goal
+use Rattle.host_laws.proofs.Plain.{drivers_served, memory_served, processes_served, process_served}
+use Rattle.host_laws.proofs.own_runs.spawners_below_are_plain.Goals as goal
 
 pub returns-clause-memory : goal.returns-clause-memory
 returns-clause-memory c = record {

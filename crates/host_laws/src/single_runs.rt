@@ -1,10 +1,11 @@
-ghost use Rattle.smudge_laws.specs.SingleRuns.{SingleRunsAreHeard};
-ghost use Rattle.smudge_laws.specs.RunsAlike.{RunsChangeNothing};
-ghost use Rattle.smudge_laws.specs.RunsGive.{SingleRunsGiveAll};
+//! The laws of a checkout whose driver is a command that runs once for each content.
+ghost use Rattle.host_laws.specs.SingleRuns.{SingleRunsAreHeard};
+ghost use Rattle.host_laws.specs.RunsAlike.{RunsChangeNothing};
+ghost use Rattle.host_laws.specs.RunsGive.{SingleRunsGiveAll};
 
+use crate::laws::{kept_runs_have_memory, kept_runs_serve};
 use checkout_engine::{planned_paths_are_sized, talks_decide, talks_have_memory};
 use driver_line::a_path_gets_one_content;
-use host_laws::{kept_runs_have_memory, kept_runs_serve};
 
 /// A checkout writes for a driver that is a command the output that the command gave, if the spawner of single runs
 /// keeps their sessions and tells the runs, and memory was left for each path. It refuses a path whose request is over

@@ -17,9 +17,9 @@ use Rattle.one_shot.specs.Replies.{AreServed}
 use Rattle.one_shot.specs.Starters.{is_single_run, single_starts}
 use Rattle.one_shot.specs.Spawners.{commands_tell}
 use Rattle.host_laws.specs.KeptTalks.{IsKeptTalk, KeptHeard, KeptHadMemory}
-use Rattle.smudge_laws.specs.SingleRuns.{AreHeard}
-use Rattle.smudge_laws.proofs.Rising.{apart}
-use Rattle.smudge_laws.proofs.Sized.{are_paths}
+use Rattle.host_laws.specs.SingleRuns.{AreHeard}
+use Rattle.host_laws.proofs.Rising.{apart}
+use Rattle.host_laws.proofs.Sized.{are_paths}
 
 single_told : (below : List ℕ → Starts) (runs : List RunTold) (command : List ℕ) → is_single_run command ≡ true
     → commands_tell below true (RunsListed runs) command ≡ single_starts true (RunsListed runs) command

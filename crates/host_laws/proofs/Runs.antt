@@ -42,10 +42,10 @@ use Rattle.one_shot.specs.Starters.{is_single_run}
 use Rattle.one_shot.specs.Spawners.{commands_tell, AllServed}
 use Rattle.host_laws.specs.KeptTalks.{KeptHeard, KeptHadMemory}
 use Rattle.host_laws.specs.OnceTalks.{IsHeardOf, HearsChoice, once_request}
-use Rattle.smudge_laws.specs.SingleRuns.{run_at, AreHeard, IsRefusedFor, EndsBy, AreEnded, SingleRunsAreHeard, OwnRunsAreHeard}
-use Rattle.smudge_laws.proofs.Rising.{apart}
-use Rattle.smudge_laws.proofs.Sized.{desk_of}
-use Rattle.smudge_laws.proofs.KeptRuns.{hears, wants_none}
+use Rattle.host_laws.specs.SingleRuns.{run_at, AreHeard, IsRefusedFor, EndsBy, AreEnded, SingleRunsAreHeard, OwnRunsAreHeard}
+use Rattle.host_laws.proofs.Rising.{apart}
+use Rattle.host_laws.proofs.Sized.{desk_of}
+use Rattle.host_laws.proofs.KeptRuns.{hears, wants_none}
 
 -- the talk with a driver, by its number
 

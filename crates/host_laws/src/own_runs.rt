@@ -1,8 +1,8 @@
 //! That the sessions of single runs over the spawners below tell nothing false.
 ghost use Rattle.one_shot.specs.Spawners.{AllServed, IsPlainBelow};
-ghost use Rattle.smudge_laws.specs.SingleRuns.{OwnRunsAreHeard};
+ghost use Rattle.host_laws.specs.SingleRuns.{OwnRunsAreHeard};
 
-use crate::laws::single_runs_are_heard;
+use crate::single_runs::single_runs_are_heard;
 use edge_adapters::{ProcessLink, ProcessSpawner, ProcessStarter};
 use edge_kit::{Link, MemoryLink, MemorySpawner, MemoryStarter, Spawner, Starter};
 use one_shot::{OnceMaker, OnceSpawner};
