@@ -10,7 +10,7 @@ use Rattle.edge_kit.specs.declared.faults.SendFault.{SendFault}
 use Rattle.edge_kit.specs.declared.faults.SendFault.TheVariants as send
 use Rattle.git_index.specs.declared.entry.Entry.{Entry}
 use Rattle.git_index.specs.Spelling.{plain_text}
-use Rattle.clean_line.specs.CleanTalks.{TurnsAreTalks}
+use Rattle.clean_drivers.specs.CleanTalks.{TurnsAreTalks}
 use Rattle.clean_drivers.specs.Drivers.{DriversSeen}
 use Rattle.attr_stack.specs.declared.files.AttrFiles.{AttrFiles}
 use Rattle.checkout_plan.specs.AttributeFiles.{attribute_files}

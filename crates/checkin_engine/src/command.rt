@@ -12,7 +12,7 @@ use crate::status::{CheckinStatus, number_of};
 use crate::words::is_checkin;
 use checkin_paths::{CheckinPath, Fate, Files, Keep, read_paths};
 use checkout_sources::{Refusal, Stop, refusal_line};
-use clean_line::turns_are_talks;
+use clean_drivers::turns_are_talks;
 use edge_kit::{Repo, SendFault, Sink, Spawner};
 use one_shot::Once;
 use std::alloc::Global;

@@ -1,7 +1,7 @@
 //! What two check-ins have in common.
 ghost use Rattle.checkin_engine.specs.EqualTurns.{EqualTurns, SameFilesAskAlike};
 
-use clean_line::equal_sessions_give_equal_answers;
+use clean_drivers::equal_sessions_give_equal_answers;
 
 /// The law that equal sessions give equal turns: in two check-ins over the same paths, drivers and bytes, whose
 /// sessions have equal outputs, each driver gives the same answers, where no link failed. It does nothing.

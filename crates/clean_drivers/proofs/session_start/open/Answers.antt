@@ -1,6 +1,6 @@
 use Rattle.std.proofs.Common.{refl}
 use Rattle.filter_proto.specs.Wires.{wire_of}
-use Rattle.clean_line.proofs.session_start.open.Goals as goal
+use Rattle.clean_drivers.proofs.session_start.open.Goals as goal
 
 pub returns-in-Live-clause-opens : goal.returns-in-Live-clause-opens
 returns-in-Live-clause-opens g c =

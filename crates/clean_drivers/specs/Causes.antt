@@ -1,8 +1,8 @@
 -- Why a driver cleans no content.
 use Rattle.std.specs.Prelude.{ℕ, List, codes}
 use Rattle.filter_words.specs.BreakWords.{break_word}
-use Rattle.clean_line.specs.declared.cause.CleanCause.{CleanCause}
-use Rattle.clean_line.specs.declared.cause.CleanCause.TheVariants as clean
+use Rattle.clean_drivers.specs.declared.cause.CleanCause.{CleanCause}
+use Rattle.clean_drivers.specs.declared.cause.CleanCause.TheVariants as clean
 
 abbrev pub cause_word : CleanCause → List ℕ
 cause_word clean.Error = codes "filter-error"

@@ -12,11 +12,11 @@ use Rattle.filter_proto.specs.Cleans.{IsCleaning, standing_after_clean}
 use Rattle.filter_proto.specs.declared.session.Standing.{Standing}
 use Rattle.filter_proto.specs.declared.session.Standing.TheVariants as standing
 use Rattle.filter_proto.specs.declared.clean_session.Cleaned.{Cleaned}
-use Rattle.clean_line.specs.declared.cause.CleanCause.{CleanCause}
-use Rattle.clean_line.specs.declared.cause.CleanCause.TheVariants as cause
-use Rattle.clean_line.specs.declared.cause.CleanFault.{CleanFault}
-use Rattle.clean_line.specs.declared.cause.CleanFault.TheVariants.{Refused, NoMemory}
-use Rattle.clean_line.specs.CleanLines.{CleanLineView, line_of, answer_of, Cleans, Closes}
+use Rattle.clean_drivers.specs.declared.cause.CleanCause.{CleanCause}
+use Rattle.clean_drivers.specs.declared.cause.CleanCause.TheVariants as cause
+use Rattle.clean_drivers.specs.declared.cause.CleanFault.{CleanFault}
+use Rattle.clean_drivers.specs.declared.cause.CleanFault.TheVariants.{Refused, NoMemory}
+use Rattle.clean_drivers.specs.CleanLines.{CleanLineView, line_of, answer_of, Cleans, Closes}
 
 -- a path that a driver was asked for, the bytes of its file, and what came of it
 pub record Turn : Type 0 where

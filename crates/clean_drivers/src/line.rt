@@ -1,8 +1,8 @@
 //! The line to a driver.
 ghost use Rattle.std.specs.Prelude.{◌≡◌, ◌≤◌, ◌<◌, ◌+◌, ◌^◌, Some, None, Ok, Err, IsSome, IfErr, OnOk, length};
 ghost use Rattle.filter_proto.specs.Wires.{SessionSeen};
-ghost use Rattle.clean_line.specs.CleanLines.{line_of, Cleans, CleansBy, StartsFor, IsAsked, Replies, Begins, Closes};
-ghost use Rattle.clean_line.specs.CleanLines.{answer_of, lasting, lasting_in, starts_of};
+ghost use Rattle.clean_drivers.specs.CleanLines.{line_of, Cleans, CleansBy, StartsFor, IsAsked, Replies, Begins, Closes};
+ghost use Rattle.clean_drivers.specs.CleanLines.{answer_of, lasting, lasting_in, starts_of};
 
 use crate::cause::{CleanCause, CleanFault};
 use crate::session_start::{begin, end_session};
@@ -26,7 +26,7 @@ impl<S: Starter> Model for CleanLine<S> {
     ghost use Rattle.std.specs.Prelude.{◌≡◌, Some};
     ghost use Rattle.filter_proto.specs.Wires.{SessionSeen};
     ghost use Rattle.filter_proto.specs.declared.session.Standing.TheVariants.{Live};
-    ghost use Rattle.clean_line.specs.CleanLines.{CleanLineView, line_of, weight};
+    ghost use Rattle.clean_drivers.specs.CleanLines.{CleanLineView, line_of, weight};
 
     ghost Value = { CleanLineView };
 

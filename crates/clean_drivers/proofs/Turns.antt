@@ -9,13 +9,13 @@ use Rattle.filter_proto.specs.declared.session.Standing.{Standing}
 use Rattle.filter_proto.specs.declared.session.Standing.TheVariants as standing
 use Rattle.filter_proto.specs.declared.clean_session.Cleaned.{Cleaned}
 use Rattle.filter_proto.specs.declared.clean_session.Cleaned.TheVariants as cleaned
-use Rattle.clean_line.specs.declared.cause.CleanCause.{CleanCause}
-use Rattle.clean_line.specs.declared.cause.CleanCause.TheVariants as cause
-use Rattle.clean_line.specs.declared.cause.CleanFault.{CleanFault}
-use Rattle.clean_line.specs.declared.cause.CleanFault.TheVariants.{Refused, NoMemory}
-use Rattle.clean_line.specs.CleanLines.{CleanLineView, line_of, IsGivenBack, lasting, lasting_in, answer_of, Begins, GoesOn, IsAsked, StartsFor, CleansBy, Closes, ClosesBy}
-use Rattle.clean_line.specs.CleanTalks.{Turn, AreHad, AreRefused, Follows, IsCleanTalk, CleansAll, HasTalk, TurnsAreTalks}
-use Rattle.clean_line.proofs.Commands.{kept_command}
+use Rattle.clean_drivers.specs.declared.cause.CleanCause.{CleanCause}
+use Rattle.clean_drivers.specs.declared.cause.CleanCause.TheVariants as cause
+use Rattle.clean_drivers.specs.declared.cause.CleanFault.{CleanFault}
+use Rattle.clean_drivers.specs.declared.cause.CleanFault.TheVariants.{Refused, NoMemory}
+use Rattle.clean_drivers.specs.CleanLines.{CleanLineView, line_of, IsGivenBack, lasting, lasting_in, answer_of, Begins, GoesOn, IsAsked, StartsFor, CleansBy, Closes, ClosesBy}
+use Rattle.clean_drivers.specs.CleanTalks.{Turn, AreHad, AreRefused, Follows, IsCleanTalk, CleansAll, HasTalk, TurnsAreTalks}
+use Rattle.clean_drivers.proofs.Commands.{kept_command}
 
 -- the turns that are left where a session is open: some are had in it, and the talk goes on behind it
 record IsOpenTalk (wire : Wire) (starter : StarterSeen) (ts : List Turn) (end : StarterSeen) : Type 0 where

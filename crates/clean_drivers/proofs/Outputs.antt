@@ -38,13 +38,13 @@ use Rattle.filter_proto.specs.declared.session.Standing.{Standing}
 use Rattle.filter_proto.specs.declared.session.Standing.TheVariants as standing
 use Rattle.filter_proto.specs.declared.clean_session.Cleaned.{Cleaned}
 use Rattle.filter_proto.specs.declared.clean_session.Cleaned.TheVariants as cleaned
-use Rattle.clean_line.specs.declared.cause.CleanCause.{CleanCause}
-use Rattle.clean_line.specs.declared.cause.CleanCause.TheVariants as cause
-use Rattle.clean_line.specs.declared.cause.CleanFault.{CleanFault}
-use Rattle.clean_line.specs.declared.cause.CleanFault.TheVariants.{Refused, NoMemory}
-use Rattle.clean_line.specs.CleanLines.{answer_of}
-use Rattle.clean_line.specs.CleanTalks.{Turn, OnLive, AreHad, IsKeptAs, IsUnopenedBy, IsUnopenedFor, IsUnclean, AreRefused, FirstEnds, Follows, HaveSession, IsCleanTalk}
-use Rattle.clean_line.specs.EqualAnswers.{IsOf, AreOf, AreAskedAlike, HadMemory, EqualAnswers}
+use Rattle.clean_drivers.specs.declared.cause.CleanCause.{CleanCause}
+use Rattle.clean_drivers.specs.declared.cause.CleanCause.TheVariants as cause
+use Rattle.clean_drivers.specs.declared.cause.CleanFault.{CleanFault}
+use Rattle.clean_drivers.specs.declared.cause.CleanFault.TheVariants.{Refused, NoMemory}
+use Rattle.clean_drivers.specs.CleanLines.{answer_of}
+use Rattle.clean_drivers.specs.CleanTalks.{Turn, OnLive, AreHad, IsKeptAs, IsUnopenedBy, IsUnopenedFor, IsUnclean, AreRefused, FirstEnds, Follows, HaveSession, IsCleanTalk}
+use Rattle.clean_drivers.specs.EqualAnswers.{IsOf, AreOf, AreAskedAlike, HadMemory, EqualAnswers}
 
 abbrev pub ReplyLaw : Type 0
 ReplyLaw = IsHeardOnce ReplyPhase GoodReply (reply_step false) reply_start

@@ -1,7 +1,7 @@
 use Rattle.std.proofs.Common.{◌≡◌, ap, ◌∙◌}
 use Rattle.edge_kit.specs.Links.{LinkSeen, input_shut, waited}
 use Rattle.filter_proto.specs.Wires.{wire_of}
-use Rattle.clean_line.proofs.session_start.end_unclean.Goals as goal
+use Rattle.clean_drivers.proofs.session_start.end_unclean.Goals as goal
 
 pub returns-clause-ended : goal.returns-clause-ended
 returns-clause-ended g c unread =

@@ -1,5 +1,5 @@
 use Rattle.std.proofs.Common.{Ok, refl}
-use Rattle.clean_line.proofs.session_start.end_unopened.Goals as goal
+use Rattle.clean_drivers.proofs.session_start.end_unopened.Goals as goal
 
 pub returns-clause-ended : goal.returns-clause-ended
 returns-clause-ended g c unread = record {

@@ -4,12 +4,12 @@ use Rattle.edge_kit.specs.Starters.{StarterSeen}
 use Rattle.filter_proto.specs.Wires.{Wire, SessionSeen}
 use Rattle.filter_proto.specs.declared.session.Standing.{Standing}
 use Rattle.filter_proto.specs.declared.session.Standing.TheVariants as standing
-use Rattle.clean_line.specs.declared.cause.CleanCause.{CleanCause}
-use Rattle.clean_line.specs.declared.cause.CleanCause.TheVariants as cause
-use Rattle.clean_line.specs.declared.cause.CleanFault.{CleanFault}
-use Rattle.clean_line.specs.declared.cause.CleanFault.TheVariants.{Refused, NoMemory}
-use Rattle.clean_line.specs.CleanLines.{CleanLineView, line_of, StartsAnd, Begins, GoesOn, IsAsked, CleansBy, Closes, ClosesBy}
-use Rattle.clean_line.specs.CleanTalks.{Turn, CleansAll}
+use Rattle.clean_drivers.specs.declared.cause.CleanCause.{CleanCause}
+use Rattle.clean_drivers.specs.declared.cause.CleanCause.TheVariants as cause
+use Rattle.clean_drivers.specs.declared.cause.CleanFault.{CleanFault}
+use Rattle.clean_drivers.specs.declared.cause.CleanFault.TheVariants.{Refused, NoMemory}
+use Rattle.clean_drivers.specs.CleanLines.{CleanLineView, line_of, StartsAnd, Begins, GoesOn, IsAsked, CleansBy, Closes, ClosesBy}
+use Rattle.clean_drivers.specs.CleanTalks.{Turn, CleansAll}
 
 kept_start : (old new : StarterSeen) (r : Result SessionSeen CleanFault) → StartsAnd old new r → new.command ≡ old.command
 kept_start old new (Ok s) (link, mid, started, opens) = ap (λ (x : StarterSeen). x.command) opens.0 ∙ ap (λ (x : StarterSeen). x.command) started.kept

@@ -2,7 +2,7 @@
 ghost use Rattle.std.specs.Prelude.{◌≡◌, ◌≤◌, ◌<◌, ◌+◌, ◌^◌, ℕ, List, OnOk, OnErr, length};
 ghost use Rattle.filter_proto.specs.Wires.{wire_of};
 ghost use Rattle.filter_proto.specs.declared.session.Standing.TheVariants.{Live, Over};
-ghost use Rattle.clean_line.specs.CleanLines.{IsGivenBack, Opens, Begins};
+ghost use Rattle.clean_drivers.specs.CleanLines.{IsGivenBack, Opens, Begins};
 
 use crate::cause::{CleanCause, CleanFault};
 use edge_kit::{Link, SendFault, Starter};

@@ -1,6 +1,6 @@
 //! Why a content isn't cleaned.
 ghost use Rattle.std.specs.Prelude.{◌≡◌};
-ghost use Rattle.clean_line.specs.Causes.{cause_word};
+ghost use Rattle.clean_drivers.specs.Causes.{cause_word};
 
 use filter_words::BreakCause;
 

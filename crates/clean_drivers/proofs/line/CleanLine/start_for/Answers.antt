@@ -1,6 +1,6 @@
 use Rattle.std.proofs.Common.{inr, ap}
-use Rattle.clean_line.specs.CleanLines.{CleanLineView}
-use Rattle.clean_line.proofs.line.CleanLine.start_for.Goals as goal
+use Rattle.clean_drivers.specs.CleanLines.{CleanLineView}
+use Rattle.clean_drivers.proofs.line.CleanLine.start_for.Goals as goal
 
 pub returns-in-Ok-clause-cleans : goal.returns-in-Ok-clause-cleans
 returns-in-Ok-clause-cleans g c =

@@ -13,10 +13,10 @@ use Rattle.filter_proto.specs.declared.session.Standing.{Standing}
 use Rattle.filter_proto.specs.declared.session.Standing.TheVariants as standing
 use Rattle.filter_proto.specs.declared.clean_session.Cleaned.{Cleaned}
 use Rattle.filter_proto.specs.declared.clean_session.Cleaned.TheVariants as cleaned
-use Rattle.clean_line.specs.declared.cause.CleanCause.{CleanCause}
-use Rattle.clean_line.specs.declared.cause.CleanCause.TheVariants as cause
-use Rattle.clean_line.specs.declared.cause.CleanFault.{CleanFault}
-use Rattle.clean_line.specs.declared.cause.CleanFault.TheVariants.{Refused, NoMemory}
+use Rattle.clean_drivers.specs.declared.cause.CleanCause.{CleanCause}
+use Rattle.clean_drivers.specs.declared.cause.CleanCause.TheVariants as cause
+use Rattle.clean_drivers.specs.declared.cause.CleanFault.{CleanFault}
+use Rattle.clean_drivers.specs.declared.cause.CleanFault.TheVariants.{Refused, NoMemory}
 
 -- what came of the starts, the session that is open, if one is, and why every later path is refused, if it is
 pub record CleanLineView : Type 0 where

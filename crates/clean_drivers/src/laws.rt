@@ -1,6 +1,6 @@
 //! Laws over the definitions alone: what a driver was asked, and answered, as one talk.
-ghost use Rattle.clean_line.specs.CleanTalks.{TurnsAreTalks};
-ghost use Rattle.clean_line.specs.EqualAnswers.{EqualAnswers};
+ghost use Rattle.clean_drivers.specs.CleanTalks.{TurnsAreTalks};
+ghost use Rattle.clean_drivers.specs.EqualAnswers.{EqualAnswers};
 
 use filter_proto::same_heard;
 

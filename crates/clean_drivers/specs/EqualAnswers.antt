@@ -1,8 +1,8 @@
 -- Two talks whose sessions have equal outputs: what they have in common.
 use Rattle.std.specs.Prelude.{◌≡◌, ℕ, ◌<◌, List, [], ◌∷◌, ◌++◌, Some, Err}
 use Rattle.edge_kit.specs.Starters.{SessionHad, Had, Session, StartFailed, StartTold, Fails, Gives}
-use Rattle.clean_line.specs.declared.cause.CleanFault.TheVariants.{NoMemory}
-use Rattle.clean_line.specs.CleanTalks.{Turn, IsCleanTalk}
+use Rattle.clean_drivers.specs.declared.cause.CleanFault.TheVariants.{NoMemory}
+use Rattle.clean_drivers.specs.CleanTalks.{Turn, IsCleanTalk}
 
 -- A session took a first part of this output, and all of it if it met an end of input. Its link never failed.
 pub record IsOf (output : List ℕ) (seen : SessionHad) : Type 0 where
