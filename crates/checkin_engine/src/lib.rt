@@ -6,7 +6,6 @@ mod kept_entries;
 mod kept_index;
 mod laws;
 mod report;
-mod status;
 mod words;
 
 pub use command::checkin;
