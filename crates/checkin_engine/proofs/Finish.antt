@@ -195,12 +195,6 @@ module _ (told : AllTold) (r : PathsRead) (old mid new : RepoSeen) (files files'
   told_so : (told' : RepoTold) → told' ≡ told.repo → (x : Result (Vec Fate) SendFault) → Keeps told' x → Keeps told.repo x
   told_so told' same x kept = subst (λ (t : RepoTold). Keeps t x) same kept
 
-  -- there is a fate of each path that is reported
-  pub lengths : (told' : RepoTold) → told' ≡ told.repo → (ps : List CheckinPath) (fates : List Fate) (v : Vec Fate) → ps ≡ r.paths.items → fates ≡ v.items → Keeps told' (Ok v) → length ps ≡ length fates
-  lengths told' same ps fates v same_paths same_fates kept =
-      let so : Keeps told.repo (Ok v) = told_so told' same (Ok v) kept in
-      ap (λ (l : List CheckinPath). length l) same_paths ∙ checked_length told.repo.object told.files by r.paths.items mid new first so.1.last keep so.0 v.items so.1.checks ∙ ap (λ (l : List Fate). length l) (sym same_fates)
-
   pub reported : (told' : RepoTold) → told' ≡ told.repo → (ps : List CheckinPath) (fates : List Fate) (v : Vec Fate) (s : ExitStatus) → ps ≡ r.paths.items → fates ≡ v.items → Keeps told' (Ok v)
       → WritesReport ps fates sink sink' s → EndsCheckin told before after s
   reported told' same ps fates v s same_paths same_fates kept writes =

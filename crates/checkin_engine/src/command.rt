@@ -1,5 +1,5 @@
 //! A worktree back into blobs and an index.
-ghost use Rattle.std.specs.Prelude.{◌≡◌, length, true, false};
+ghost use Rattle.std.specs.Prelude.{◌≡◌, true, false};
 ghost use Rattle.checkin_engine.specs.Words.{is_checkin};
 ghost use Rattle.checkout_sources.specs.RefusalText.{refusal_line};
 ghost use Rattle.exit_status.specs.declared.status.ExitStatus.{ExitStatus};
@@ -61,7 +61,6 @@ fn write_report<S: Sink>(
     paths: &[CheckinPath],
     fates: &[Fate],
 ) -> ExitStatus
-    requires { length paths.now ≡ length fates.now }
     ensures { WritesReport paths.now fates.now (S.seen out.old) (S.seen out.new) result }
 {
     let Ok(text) = report_text(alloc, paths, fates) else {
