@@ -1,11 +1,11 @@
 -- The rows of a report, by their places, and as a text.
-use Rattle.std.proofs.Common.{◌≡◌, ℕ, zero, suc, ◌+◌, ◌<◌, List, [], ◌∷◌, ◌++◌, length, min, Option, Some, None, refl, sym, ap, ◌∙◌, append_assoc, append-nil, arith, slice_get, unwrap_or, codes, count_by}
+use Rattle.std.proofs.Common.{◌≡◌, ℕ, zero, suc, ◌+◌, ◌<◌, List, [], ◌∷◌, ◌++◌, length, min, Option, Some, None, refl, ap, ◌∙◌, append_assoc, append-nil, arith, slice_get, unwrap_or, codes, count_by}
 use Rattle.std.specs.Fmt.{decimal}
 use Rattle.std.proofs.lemmas.Grind.{flat_map-append}
 use Rattle.hex.specs.Hex.{encode_lower}
 use Rattle.byte_path.specs.Characters.{space, line_feed}
 use Rattle.byte_path.specs.Quote.{quoted}
-use Rattle.reports.specs.Fields.{word, Field, field, Number, numbered}
+use Rattle.reports.specs.Fields.{Number, numbered}
 use Rattle.reports.specs.Forms as forms
 use Rattle.reports.specs.Lines.{front_of, numbers_of}
 use Rattle.reports.specs.declared.form.ReportForm.{ReportForm}
