@@ -3,10 +3,10 @@ use Rattle.std.proofs.Common.{◌≡◌, ℕ, zero, suc, ◌+◌, eqb, Bool, tru
 use Rattle.edge_kit.specs.Starters.{Had}
 use Rattle.one_shot.specs.Starters.{is_single_run}
 use Rattle.settings_view.specs.declared.view.Driver.{Driver}
-use Rattle.clean_line.specs.declared.cause.CleanCause.{CleanCause}
-use Rattle.clean_line.specs.declared.cause.CleanFault.TheVariants.{NoMemory}
-use Rattle.clean_line.specs.CleanTalks.{Turn}
-use Rattle.clean_line.specs.EqualAnswers.{AreAskedAlike, HadMemory, EqualAnswers}
+use Rattle.clean_drivers.specs.declared.cause.CleanCause.{CleanCause}
+use Rattle.clean_drivers.specs.declared.cause.CleanFault.TheVariants.{NoMemory}
+use Rattle.clean_drivers.specs.CleanTalks.{Turn}
+use Rattle.clean_drivers.specs.EqualAnswers.{AreAskedAlike, HadMemory, EqualAnswers}
 use Rattle.checkin_paths.specs.declared.path.CheckinPath.{CheckinPath}
 use Rattle.checkin_paths.specs.declared.path.PathDriver.{PathDriver}
 use Rattle.checkin_paths.specs.CleanedFiles.{Asked, as_answer, text_in}

@@ -10,7 +10,7 @@ use Rattle.edge_kit.specs.declared.faults.SendFault.{SendFault}
 use Rattle.edge_kit.specs.declared.faults.SendFault.TheVariants as send
 use Rattle.git_index.specs.declared.entry.Entry.{Entry}
 use Rattle.git_index.specs.Spelling.{plain_text}
-use Rattle.clean_line.specs.CleanTalks.{TurnsAreTalks}
+use Rattle.clean_drivers.specs.CleanTalks.{TurnsAreTalks}
 use Rattle.clean_drivers.specs.Drivers.{DriversSeen}
 use Rattle.attr_stack.specs.declared.files.AttrFiles.{AttrFiles}
 use Rattle.checkout_plan.specs.AttributeFiles.{attribute_files}
@@ -21,8 +21,8 @@ use Rattle.checkout_sources.specs.RefusalText.{refusal_line}
 use Rattle.checkin_paths.specs.declared.path.CheckinPath.{CheckinPath}
 use Rattle.checkin_paths.specs.declared.fate.Fate.{Fate}
 use Rattle.checkin_paths.specs.declared.paths_read.PathsRead.{PathsRead}
-use Rattle.checkin_engine.specs.declared.status.CheckinStatus.{CheckinStatus}
-use Rattle.checkin_engine.specs.declared.status.CheckinStatus.TheVariants as status
+use Rattle.exit_status.specs.declared.status.ExitStatus.{ExitStatus}
+use Rattle.exit_status.specs.declared.status.ExitStatus.TheVariants as status
 use Rattle.checkin_paths.specs.Outside.{FilesSeen, WorkSeen, KeepSeen, with_index}
 use Rattle.checkin_paths.specs.Fates.{is_auto}
 use Rattle.checkin_paths.specs.CleanedFiles.{Cleaning}
@@ -52,14 +52,14 @@ untouched : (repo repo' : RepoSeen) (files : FilesSeen) (spawner : SpawnerSeen) 
 untouched repo repo' files spawner runs keep sink sink' = record { files = refl; spawner = refl; runs = refl; keep = refl }
 
 module _ (told : AllTold) (old new : RepoSeen) (files : FilesSeen) (spawner : SpawnerSeen) (runs : ℕ) (keep : KeepSeen) (sink sink' : SinkSeen) where
-  abbrev ends_so : CheckinStatus → Type 0
+  abbrev ends_so : ExitStatus → Type 0
   ends_so s = EndsCheckin told (seen old files spawner runs keep sink) (seen new files spawner runs keep sink') s
 
   left_alone : IsUntouched (seen old files spawner runs keep sink) (seen new files spawner runs keep sink')
   left_alone = untouched old new files spawner runs keep sink sink'
 
   -- a line was to be written
-  line_ends : (line : List ℕ) (s : CheckinStatus) → IsRefusedWith told.repo line old new → WritesLine line sink sink' s → ends_so s
+  line_ends : (line : List ℕ) (s : ExitStatus) → IsRefusedWith told.repo line old new → WritesLine line sink sink' s → ends_so s
   line_ends line status.Refused refused written = record { line = line; has = record { refused = refused; untouched = left_alone }; written = written }
   line_ends line status.OutputNotWritten refused cut = inl (record { line = line; has = record { refused = refused; untouched = left_alone }; cut = cut })
   line_ends line status.OutOfMemory refused left = inl (record { repo = inr (line, refused); untouched = left_alone; silent = left })
@@ -67,9 +67,10 @@ module _ (told : AllTold) (old new : RepoSeen) (files : FilesSeen) (spawner : Sp
   line_ends line status.DoneWithFailures refused never = absurd never
   line_ends line status.Usage refused never = absurd never
   line_ends line status.ReadFault refused never = absurd never
+  line_ends line status.NotEmpty refused never = absurd never
 
   -- a check-in that stopped before a file was looked at
-  pub stopped_ends : (x : Stop) (s : CheckinStatus) → ReadsPaths told.repo old new (Err x) → EndsStopped x sink sink' s → ends_so s
+  pub stopped_ends : (x : Stop) (s : ExitStatus) → ReadsPaths told.repo old new (Err x) → EndsStopped x sink sink' s → ends_so s
   stopped_ends (stop.Refused r) s reads ends = line_ends (refusal_line r) s (r, reads, refl) ends
   stopped_ends stop.ReadFault s reads ends = subst ends_so (sym ends.0) (record { cause = reads; untouched = left_alone; silent = ends.1 })
   stopped_ends stop.NoMemory s reads ends = subst ends_so (sym ends.0) (inl (record { repo = inl reads; untouched = left_alone; silent = ends.1 }))
@@ -141,7 +142,7 @@ module _ (told : AllTold) (r : PathsRead) (old mid new : RepoSeen) (files files'
   }
 
   -- the index was kept, and the report was to be written
-  report_ends : (kept : KeepSeen) (fates : Vec Fate) (s : CheckinStatus) → Kept kept fates → WritesReport r.paths.items fates.items sink sink' s → EndsCheckin told before after s
+  report_ends : (kept : KeepSeen) (fates : Vec Fate) (s : ExitStatus) → Kept kept fates → WritesReport r.paths.items fates.items sink sink' s → EndsCheckin told before after s
   report_ends kept fates status.Done is (same, written) = record { checked = checked kept fates is; report = written; status = sym same }
   report_ends kept fates status.DoneWithFailures is (same, written) = record { checked = checked kept fates is; report = written; status = sym same }
   report_ends kept fates status.OutputNotWritten is cut = inr (inr (inr (record { checked = checked kept fates is; cut = cut })))
@@ -149,6 +150,7 @@ module _ (told : AllTold) (r : PathsRead) (old mid new : RepoSeen) (files files'
   report_ends kept fates status.Usage is never = absurd never
   report_ends kept fates status.Refused is never = absurd never
   report_ends kept fates status.ReadFault is never = absurd never
+  report_ends kept fates status.NotEmpty is never = absurd never
 
   -- the keeper failed
   cut_ends : KeepsAfter Leaves r.index keep' (Err send.Failed) → sink' ≡ sink → EndsCheckin told before after status.OutputNotWritten
@@ -193,13 +195,7 @@ module _ (told : AllTold) (r : PathsRead) (old mid new : RepoSeen) (files files'
   told_so : (told' : RepoTold) → told' ≡ told.repo → (x : Result (Vec Fate) SendFault) → Keeps told' x → Keeps told.repo x
   told_so told' same x kept = subst (λ (t : RepoTold). Keeps t x) same kept
 
-  -- there is a fate of each path that is reported
-  pub lengths : (told' : RepoTold) → told' ≡ told.repo → (ps : List CheckinPath) (fates : List Fate) (v : Vec Fate) → ps ≡ r.paths.items → fates ≡ v.items → Keeps told' (Ok v) → length ps ≡ length fates
-  lengths told' same ps fates v same_paths same_fates kept =
-      let so : Keeps told.repo (Ok v) = told_so told' same (Ok v) kept in
-      ap (λ (l : List CheckinPath). length l) same_paths ∙ checked_length told.repo.object told.files by r.paths.items mid new first so.1.last keep so.0 v.items so.1.checks ∙ ap (λ (l : List Fate). length l) (sym same_fates)
-
-  pub reported : (told' : RepoTold) → told' ≡ told.repo → (ps : List CheckinPath) (fates : List Fate) (v : Vec Fate) (s : CheckinStatus) → ps ≡ r.paths.items → fates ≡ v.items → Keeps told' (Ok v)
+  pub reported : (told' : RepoTold) → told' ≡ told.repo → (ps : List CheckinPath) (fates : List Fate) (v : Vec Fate) (s : ExitStatus) → ps ≡ r.paths.items → fates ≡ v.items → Keeps told' (Ok v)
       → WritesReport ps fates sink sink' s → EndsCheckin told before after s
   reported told' same ps fates v s same_paths same_fates kept writes =
       let so : Keeps told.repo (Ok v) = told_so told' same (Ok v) kept in
@@ -240,10 +236,11 @@ module _ (told : AllTold) (old new : Seen) where
   checked_back : IsCheckedIn told old new → new.repo.out ≡ old.repo.out
   checked_back is = ap (λ (s : Seen). s.repo.out) is.index ∙ through_back is.mid is.done
 
-  pub all_back : (s : CheckinStatus) → EndsCheckin told old new s → new.repo.out ≡ old.repo.out
+  pub all_back : (s : ExitStatus) → EndsCheckin told old new s → new.repo.out ≡ old.repo.out
   all_back status.Done ends = checked_back ends.checked
   all_back status.DoneWithFailures ends = checked_back ends.checked
   all_back status.Usage ends = absurd ends
+  all_back status.NotEmpty ends = absurd ends
   all_back status.Refused ends = refused_back told.repo ends.line old.repo new.repo ends.has.refused
   all_back status.OutputNotWritten (inl cut) = refused_back told.repo cut.line old.repo new.repo cut.has.refused
   all_back status.OutputNotWritten (inr (inl cut)) = ap (λ (r : RepoSeen). r.out) cut.cut.looked.blobs

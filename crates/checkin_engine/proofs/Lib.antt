@@ -6,3 +6,4 @@ mod Talks
 mod Finish
 mod EqualTurns
 mod SameFiles
+mod RowPlaces

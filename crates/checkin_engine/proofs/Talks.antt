@@ -5,11 +5,11 @@ use Rattle.edge_kit.specs.Seen.{RepoSeen}
 use Rattle.edge_kit.specs.Starters.{Starts, SpawnerSeen, Had, new_starter, starter_back}
 use Rattle.one_shot.specs.Starters.{is_single_run}
 use Rattle.settings_view.specs.declared.view.Driver.{Driver}
-use Rattle.clean_line.specs.declared.cause.CleanCause.{CleanCause}
-use Rattle.clean_line.specs.declared.cause.CleanFault.{CleanFault}
-use Rattle.clean_line.specs.declared.cause.CleanFault.TheVariants.{NoMemory}
-use Rattle.clean_line.specs.CleanLines.{CleanLineView, line_of, Cleans}
-use Rattle.clean_line.specs.CleanTalks.{Turn, CleansAll, IsCleanTalk, TurnsAreTalks}
+use Rattle.clean_drivers.specs.declared.cause.CleanCause.{CleanCause}
+use Rattle.clean_drivers.specs.declared.cause.CleanFault.{CleanFault}
+use Rattle.clean_drivers.specs.declared.cause.CleanFault.TheVariants.{NoMemory}
+use Rattle.clean_drivers.specs.CleanLines.{CleanLineView, line_of, Cleans}
+use Rattle.clean_drivers.specs.CleanTalks.{Turn, CleansAll, IsCleanTalk, TurnsAreTalks}
 use Rattle.clean_drivers.specs.Drivers.{DriversSeen, HasLine, TalksWith, AsksBy, GivesLine, GivesBack}
 use Rattle.checkin_paths.specs.declared.path.CheckinPath.{CheckinPath}
 use Rattle.checkin_paths.specs.declared.path.PathDriver.{PathDriver}

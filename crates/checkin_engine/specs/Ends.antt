@@ -14,8 +14,8 @@ use Rattle.checkout_sources.specs.Causes.{IsReadCause, IsRefusedFor, IsCutShort}
 use Rattle.checkout_sources.specs.RefusalText.{refusal_line}
 use Rattle.checkin_paths.specs.declared.path.CheckinPath.{CheckinPath}
 use Rattle.checkin_paths.specs.declared.fate.Fate.{Fate}
-use Rattle.checkin_engine.specs.declared.status.CheckinStatus.{CheckinStatus}
-use Rattle.checkin_engine.specs.declared.status.CheckinStatus.TheVariants as status
+use Rattle.exit_status.specs.declared.status.ExitStatus.{ExitStatus}
+use Rattle.exit_status.specs.declared.status.ExitStatus.TheVariants as status
 use Rattle.checkin_paths.specs.Outside.{FilesSeen, WorkSeen, KeepSeen, IsKeepFailed, with_index}
 use Rattle.checkin_paths.specs.Paths.{HasPaths}
 use Rattle.checkin_paths.specs.ReadPaths.{after_reading}
@@ -65,7 +65,7 @@ abbrev pub with_text : List ℕ → SinkSeen → SinkSeen
 with_text text sink = record sink { written = grown sink.written text }
 
 -- 1 if some path failed, and 0 if none did
-abbrev pub status_of : List Fate → CheckinStatus
+abbrev pub status_of : List Fate → ExitStatus
 status_of fates = if list_any is_failed fates then status.DoneWithFailures else status.Done
 
 -- The paths of the index came to these fates, and the objects of the changed ones were kept. The blobs of the attribute
@@ -95,7 +95,7 @@ pub record IsCheckedIn (told : AllTold) (old new : Seen) : Type 0 where
   }
 
 -- 0, or 1 if some path failed: the report was written after that
-pub record IsDone (told : AllTold) (old new : Seen) (s : CheckinStatus) : Type 0 where
+pub record IsDone (told : AllTold) (old new : Seen) (s : ExitStatus) : Type 0 where
   pub checked : IsCheckedIn told old new
   pub report : new.sink ≡ with_text (report_of checked.done.paths checked.done.fates) old.sink
   pub status : s ≡ status_of checked.done.fates
@@ -193,7 +193,7 @@ pub record IsReadFault (told : RepoTold) (old new : Seen) : Type 0 where
   pub silent : new.sink ≡ old.sink
 
 -- what holds at each end
-abbrev pub EndsCheckin : AllTold → Seen → Seen → CheckinStatus → Type 0
+abbrev pub EndsCheckin : AllTold → Seen → Seen → ExitStatus → Type 0
 EndsCheckin told old new status.Done = IsDone told old new status.Done
 EndsCheckin told old new status.DoneWithFailures = IsDone told old new status.DoneWithFailures
 EndsCheckin told old new status.Usage = ⊥
@@ -201,13 +201,4 @@ EndsCheckin told old new status.Refused = IsRefused told.repo old new
 EndsCheckin told old new status.OutputNotWritten = IsCutOff told old new
 EndsCheckin told old new status.OutOfMemory = IsOutOfMemory told old new
 EndsCheckin told old new status.ReadFault = IsReadFault told.repo old new
-
--- the number of a status, which the program ends with
-abbrev pub number_of : CheckinStatus → ℕ
-number_of status.Done = 0
-number_of status.DoneWithFailures = 1
-number_of status.Usage = 2
-number_of status.Refused = 3
-number_of status.OutputNotWritten = 4
-number_of status.OutOfMemory = 5
-number_of status.ReadFault = 6
+EndsCheckin told old new status.NotEmpty = ⊥

@@ -4,7 +4,7 @@ use Rattle.edge_kit.specs.Starters.{Had, StartTold}
 use Rattle.edge_kit.specs.Told.{Told, MayFail}
 use Rattle.one_shot.specs.Starters.{is_single_run}
 use Rattle.settings_view.specs.declared.view.Driver.{Driver}
-use Rattle.clean_line.specs.EqualAnswers.{AreOf}
+use Rattle.clean_drivers.specs.EqualAnswers.{AreOf}
 use Rattle.checkin_paths.specs.CleanedFiles.{Asked, text_in}
 use Rattle.checkin_paths.specs.Outcomes.{Outcome}
 use Rattle.checkin_engine.specs.Talks.{turns_of}

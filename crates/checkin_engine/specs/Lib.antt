@@ -3,6 +3,7 @@ pub mod Talks
 pub mod Indexes
 pub mod InTurn
 pub mod Report
+pub mod Rows
 -- what `checkin` promises
 pub mod Words
 pub mod Ends

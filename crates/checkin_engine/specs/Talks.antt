@@ -4,7 +4,7 @@ use Rattle.std.specs.Prelude.{if◌then◌else◌}
 use Rattle.edge_kit.specs.Starters.{Had, SpawnerSeen}
 use Rattle.one_shot.specs.Starters.{is_single_run}
 use Rattle.settings_view.specs.declared.view.Driver.{Driver}
-use Rattle.clean_line.specs.CleanTalks.{Turn, IsCleanTalk}
+use Rattle.clean_drivers.specs.CleanTalks.{Turn, IsCleanTalk}
 use Rattle.checkin_paths.specs.declared.path.PathDriver.{PathDriver}
 use Rattle.checkin_paths.specs.declared.path.CheckinPath.{CheckinPath}
 use Rattle.checkin_paths.specs.CleanedFiles.{Asked, as_answer, text_in}

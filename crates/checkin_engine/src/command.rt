@@ -1,55 +1,56 @@
 //! A worktree back into blobs and an index.
-ghost use Rattle.std.specs.Prelude.{◌≡◌, length, true, false};
+ghost use Rattle.std.specs.Prelude.{◌≡◌, true, false};
 ghost use Rattle.checkin_engine.specs.Words.{is_checkin};
 ghost use Rattle.checkout_sources.specs.RefusalText.{refusal_line};
-ghost use Rattle.checkin_engine.specs.declared.status.CheckinStatus.{CheckinStatus};
-ghost use Rattle.checkin_engine.specs.Ends.{seen, all_told, number_of, status_of, EndsCheckin};
+ghost use Rattle.exit_status.specs.declared.status.ExitStatus.{ExitStatus};
+ghost use Rattle.exit_status.specs.Status.{number_of};
+ghost use Rattle.checkin_engine.specs.Ends.{seen, all_told, status_of, EndsCheckin};
 ghost use Rattle.checkin_engine.specs.Ending.{WritesLine, EndsStopped, WritesReport};
 
 use crate::kept_index::keep_all;
 use crate::report::{has_failed, report_text};
-use crate::status::{CheckinStatus, number_of};
 use crate::words::is_checkin;
 use checkin_paths::{CheckinPath, Fate, Files, Keep, read_paths};
 use checkout_sources::{Refusal, Stop, refusal_line};
-use clean_line::turns_are_talks;
+use clean_drivers::turns_are_talks;
 use edge_kit::{Repo, SendFault, Sink, Spawner};
+use exit_status::ExitStatus;
 use one_shot::Once;
 use std::alloc::Global;
 
 /// Writes the line of a refusal.
-fn refuse<S: Sink>(alloc: Global, out: &mut S, refusal: &Refusal) -> CheckinStatus
+fn refuse<S: Sink>(alloc: Global, out: &mut S, refusal: &Refusal) -> ExitStatus
     ensures { WritesLine (refusal_line refusal.now) (S.seen out.old) (S.seen out.new) result }
 {
     let Ok(line) = refusal_line(alloc, refusal) else {
-        return CheckinStatus::OutOfMemory;
+        return ExitStatus::OutOfMemory;
     };
     match out.write(&line) {
-        Ok(()) => CheckinStatus::Refused,
-        Err(SendFault::Failed) => CheckinStatus::OutputNotWritten,
-        Err(SendFault::NoMemory) => CheckinStatus::OutOfMemory,
+        Ok(()) => ExitStatus::Refused,
+        Err(SendFault::Failed) => ExitStatus::OutputNotWritten,
+        Err(SendFault::NoMemory) => ExitStatus::OutOfMemory,
     }
 }
 
 /// How a check-in ends for which nothing could be read.
-fn stopped<S: Sink>(alloc: Global, out: &mut S, stop: Stop) -> CheckinStatus
+fn stopped<S: Sink>(alloc: Global, out: &mut S, stop: Stop) -> ExitStatus
     ensures { EndsStopped stop (S.seen out.old) (S.seen out.new) result }
 {
     match stop {
         Stop::Refused(refusal) => refuse(alloc, out, &refusal),
-        Stop::ReadFault => CheckinStatus::ReadFault,
-        Stop::NoMemory => CheckinStatus::OutOfMemory,
+        Stop::ReadFault => ExitStatus::ReadFault,
+        Stop::NoMemory => ExitStatus::OutOfMemory,
     }
 }
 
 /// 1 if some path failed, and 0 if none did.
-fn status_of(fates: &[Fate]) -> CheckinStatus
+fn status_of(fates: &[Fate]) -> ExitStatus
     ensures { result ≡ status_of fates.now }
 {
     if has_failed(fates) {
-        CheckinStatus::DoneWithFailures
+        ExitStatus::DoneWithFailures
     } else {
-        CheckinStatus::Done
+        ExitStatus::Done
     }
 }
 
@@ -59,17 +60,16 @@ fn write_report<S: Sink>(
     out: &mut S,
     paths: &[CheckinPath],
     fates: &[Fate],
-) -> CheckinStatus
-    requires { length paths.now ≡ length fates.now }
+) -> ExitStatus
     ensures { WritesReport paths.now fates.now (S.seen out.old) (S.seen out.new) result }
 {
     let Ok(text) = report_text(alloc, paths, fates) else {
-        return CheckinStatus::OutOfMemory;
+        return ExitStatus::OutOfMemory;
     };
     match out.write(&text) {
         Ok(()) => status_of(fates),
-        Err(SendFault::Failed) => CheckinStatus::OutputNotWritten,
-        Err(SendFault::NoMemory) => CheckinStatus::OutOfMemory,
+        Err(SendFault::Failed) => ExitStatus::OutputNotWritten,
+        Err(SendFault::NoMemory) => ExitStatus::OutOfMemory,
     }
 }
 
@@ -82,7 +82,7 @@ fn check_in<R: Repo, F: Files, P: Spawner, O: Once, K: Keep, S: Sink>(
     once: &mut O,
     keep: &mut K,
     out: &mut S,
-) -> CheckinStatus
+) -> ExitStatus
     ensures told { R.told repo.new ≡ R.told repo.old }
     ensures files { F.told files.new ≡ F.told files.old }
     ensures starts { P.told spawner.new ≡ P.told spawner.old }
@@ -102,8 +102,8 @@ fn check_in<R: Repo, F: Files, P: Spawner, O: Once, K: Keep, S: Sink>(
     turns_are_talks();
     match keep_all(alloc, repo, files, spawner, once, keep, &read) {
         Ok(fates) => write_report(alloc, out, &read.paths, &fates),
-        Err(SendFault::Failed) => CheckinStatus::OutputNotWritten,
-        Err(SendFault::NoMemory) => CheckinStatus::OutOfMemory,
+        Err(SendFault::Failed) => ExitStatus::OutputNotWritten,
+        Err(SendFault::NoMemory) => ExitStatus::OutOfMemory,
     }
 }
 
@@ -128,7 +128,7 @@ pub fn checkin<R: Repo, F: Files, P: Spawner, O: Once, K: Keep, S: Sink>(
     out: &mut S,
 ) -> u8
     // How it ends, and what holds then. It is never 2.
-    ensures ends { is_checkin words.now ≡ true → (s : CheckinStatus) × (result ≡ number_of s) × EndsCheckin
+    ensures ends { is_checkin words.now ≡ true → (s : ExitStatus) × (result ≡ number_of s) × EndsCheckin
         (all_told (R.told repo.old) (F.told files.old) (P.told spawner.old) (O.told once.old))
         (seen (R.seen repo.old) (F.seen files.old) (P.seen spawner.old) (O.faults once.old) (K.seen keep.old)
         (S.seen out.old))
@@ -152,7 +152,7 @@ pub fn checkin<R: Repo, F: Files, P: Spawner, O: Once, K: Keep, S: Sink>(
     ensures runs { O.told once.new ≡ O.told once.old }
 {
     if !is_checkin(words) {
-        return number_of(CheckinStatus::Usage);
+        return ExitStatus::Usage.number();
     }
-    number_of(check_in(alloc, repo, files, spawner, once, keep, out))
+    check_in(alloc, repo, files, spawner, once, keep, out).number()
 }

@@ -31,7 +31,7 @@ use Rattle.checkout_core.specs.declared.verdict.Verdict.TheVariants as verdict
 use Rattle.checkout_core.specs.declared.verdict.SkipCause.TheVariants as skip
 use Rattle.checkout_plan.specs.declared.path_plan.PathPlan.{PathPlan}
 use Rattle.checkout_plan.specs.Paths.{closed, filter_start, converted, file_path, text_path, link_path, path_of_mode, asked_path}
-use Rattle.clean_line.specs.declared.cause.CleanCause.{CleanCause}
+use Rattle.clean_drivers.specs.declared.cause.CleanCause.{CleanCause}
 use Rattle.checkin_paths.specs.CleanedFiles.{Asked, cleaned_by, IsCleaned}
 use Rattle.checkin_paths.specs.declared.path.PathDriver.{PathDriver}
 use Rattle.checkin_paths.specs.declared.path.Storing.{Storing}

@@ -5,7 +5,7 @@ use Rattle.edge_kit.specs.Seen.{RepoSeen}
 use Rattle.edge_kit.specs.Starters.{Starts, SpawnerSeen}
 use Rattle.one_shot.specs.Onces.{RunsTold}
 use Rattle.settings_view.specs.declared.view.Driver.{Driver}
-use Rattle.clean_line.specs.CleanLines.{CleanLineView}
+use Rattle.clean_drivers.specs.CleanLines.{CleanLineView}
 use Rattle.clean_drivers.specs.Drivers.{drivers_seen, GivesBack, lines_out}
 use Rattle.edge_kit.specs.Told.{Told, RepoTold}
 use Rattle.edge_kit.specs.declared.faults.SendFault.{SendFault}

@@ -11,9 +11,9 @@ use Rattle.back_convert.specs.declared.encoding.BackFault.{BackFault}
 use Rattle.back_convert.specs.declared.encoding.BackFault.TheVariants.{Form}
 use Rattle.eol_convert.specs.declared.action.Action.{Action}
 use Rattle.back_convert.specs.Laws.{back_encoded_if, back_stored, stored}
-use Rattle.clean_line.specs.declared.cause.CleanCause.{CleanCause}
-use Rattle.clean_line.specs.declared.cause.CleanFault.{CleanFault}
-use Rattle.clean_line.specs.declared.cause.CleanFault.TheVariants as clean
+use Rattle.clean_drivers.specs.declared.cause.CleanCause.{CleanCause}
+use Rattle.clean_drivers.specs.declared.cause.CleanFault.{CleanFault}
+use Rattle.clean_drivers.specs.declared.cause.CleanFault.TheVariants as clean
 use Rattle.clean_drivers.specs.Drivers.{DriversSeen, Asks}
 use Rattle.checkin_paths.specs.declared.path.PathDriver.{PathDriver}
 use Rattle.checkin_paths.specs.declared.path.Storing.{Storing}

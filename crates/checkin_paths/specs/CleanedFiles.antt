@@ -3,9 +3,9 @@ use Rattle.std.specs.Prelude.{◌≡◌, ℕ, Bool, true, false, List, [], Optio
 use Rattle.edge_kit.specs.Starters.{Starts}
 use Rattle.one_shot.specs.Onces.{RunsTold}
 use Rattle.settings_view.specs.declared.view.Driver.{Driver}
-use Rattle.clean_line.specs.declared.cause.CleanCause.{CleanCause}
-use Rattle.clean_line.specs.declared.cause.CleanFault.{CleanFault}
-use Rattle.clean_line.specs.declared.cause.CleanFault.TheVariants.{Refused}
+use Rattle.clean_drivers.specs.declared.cause.CleanCause.{CleanCause}
+use Rattle.clean_drivers.specs.declared.cause.CleanFault.{CleanFault}
+use Rattle.clean_drivers.specs.declared.cause.CleanFault.TheVariants.{Refused}
 use Rattle.clean_drivers.specs.Drivers.{DriversSeen, Asks}
 use Rattle.checkin_paths.specs.declared.path.PathDriver.{PathDriver}
 

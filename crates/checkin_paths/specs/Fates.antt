@@ -11,7 +11,7 @@ use Rattle.eol_convert.specs.declared.action.Action.{Action}
 use Rattle.eol_convert.specs.declared.action.Action.TheVariants.{Binary, TextLf, TextCrlf, AutoLf, AutoCrlf}
 use Rattle.back_convert.specs.Ends.{has_crlf}
 use Rattle.back_convert.specs.Laws.{back_encoded_if, stored}
-use Rattle.clean_line.specs.Causes.{cause_word as clean_word}
+use Rattle.clean_drivers.specs.Causes.{cause_word as clean_word}
 use Rattle.checkin_paths.specs.declared.path.PathDriver.{PathDriver}
 use Rattle.checkin_paths.specs.declared.path.Storing.{Storing}
 use Rattle.checkin_paths.specs.declared.path.Way.{Way}

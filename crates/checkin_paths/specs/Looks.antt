@@ -13,9 +13,9 @@ use Rattle.object_dir.specs.declared.fault.ObjectFault.TheVariants as object
 use Rattle.back_convert.specs.Ends.{has_crlf}
 use Rattle.back_convert.specs.Laws.{back_encoded_if, stored}
 use Rattle.eol_convert.specs.declared.action.Action.{Action}
-use Rattle.clean_line.specs.declared.cause.CleanCause.{CleanCause}
-use Rattle.clean_line.specs.declared.cause.CleanFault.{CleanFault}
-use Rattle.clean_line.specs.declared.cause.CleanFault.TheVariants as clean
+use Rattle.clean_drivers.specs.declared.cause.CleanCause.{CleanCause}
+use Rattle.clean_drivers.specs.declared.cause.CleanFault.{CleanFault}
+use Rattle.clean_drivers.specs.declared.cause.CleanFault.TheVariants as clean
 use Rattle.clean_drivers.specs.Drivers.{DriversSeen}
 use Rattle.checkin_paths.specs.declared.path.PathDriver.{PathDriver}
 use Rattle.checkin_paths.specs.declared.found_file.Found.{Found}

@@ -2,7 +2,7 @@
 ghost use Rattle.std.specs.Prelude.{◌≡◌};
 ghost use Rattle.checkin_paths.specs.Fates.{cause_word};
 
-use clean_line::CleanCause;
+use clean_drivers::CleanCause;
 
 /// Why a path isn't checked in.
 #[derive(Clone, Copy)]

@@ -15,7 +15,7 @@ use crate::found_file::{Found, find_file};
 use crate::path::{Storing, Way};
 use back_convert::{BackFault, to_stored};
 use clean_drivers::CleanDrivers;
-use clean_line::CleanFault;
+use clean_drivers::CleanFault;
 use edge_kit::{Repo, Spawner};
 use object_dir::blob_name;
 use one_shot::Once;

@@ -1,1 +1,4 @@
+mod Commands
+mod Turns
+mod Outputs
 pub mod Places

@@ -2,7 +2,7 @@
 use Rattle.std.proofs.Common.{◌≡◌, ℕ, zero, suc, ◌+◌, ◌<◌, ◌≤◌, List, [], ◌∷◌, length, get_or, replicate, Option, Some, None, refl, sym, ap, subst, arith}
 use Rattle.std.specs.Prelude.{slice_get, slice_set}
 use Rattle.edge_kit.specs.Starters.{Starts, SpawnerSeen}
-use Rattle.clean_line.specs.CleanLines.{CleanLineView, starts_of}
+use Rattle.clean_drivers.specs.CleanLines.{CleanLineView, starts_of}
 use Rattle.clean_drivers.specs.Drivers.{HasLine, out_of, lines_out}
 
 abbrev Lines : Type 0

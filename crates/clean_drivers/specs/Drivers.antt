@@ -4,9 +4,9 @@ use Rattle.std.specs.Prelude.{Result, Err, slice_get, slice_set}
 use Rattle.edge_kit.specs.Starters.{Starts, StarterSeen, SpawnerSeen, new_starter, starter_back}
 use Rattle.one_shot.specs.Onces.{RunsTold}
 use Rattle.one_shot.specs.Starters.{is_single_run}
-use Rattle.clean_line.specs.CleanLines.{CleanLineView, line_of, Cleans, Closes}
-use Rattle.clean_line.specs.declared.cause.CleanFault.{CleanFault}
-use Rattle.clean_line.specs.declared.cause.CleanFault.TheVariants.{NoMemory}
+use Rattle.clean_drivers.specs.CleanLines.{CleanLineView, line_of, Cleans, Closes}
+use Rattle.clean_drivers.specs.declared.cause.CleanFault.{CleanFault}
+use Rattle.clean_drivers.specs.declared.cause.CleanFault.TheVariants.{NoMemory}
 use Rattle.clean_drivers.specs.Singles.{RunsSingle}
 
 -- the lines of the drivers by their places, and how many questions were asked over them

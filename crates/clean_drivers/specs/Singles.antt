@@ -6,9 +6,9 @@ use Rattle.edge_kit.specs.declared.faults.TakeFault.TheVariants as take
 use Rattle.one_shot.specs.Commands.{once_command}
 use Rattle.one_shot.specs.Onces.{RunsTold, told_of, EndsSo}
 use Rattle.one_shot.specs.declared.once.OnceEnd.{OnceEnd}
-use Rattle.clean_line.specs.declared.cause.CleanCause.TheVariants as cause
-use Rattle.clean_line.specs.declared.cause.CleanFault.{CleanFault}
-use Rattle.clean_line.specs.declared.cause.CleanFault.TheVariants.{Refused, NoMemory}
+use Rattle.clean_drivers.specs.declared.cause.CleanCause.TheVariants as cause
+use Rattle.clean_drivers.specs.declared.cause.CleanFault.{CleanFault}
+use Rattle.clean_drivers.specs.declared.cause.CleanFault.TheVariants.{Refused, NoMemory}
 
 -- the most bytes that a run may write
 abbrev pub most_output : ℕ

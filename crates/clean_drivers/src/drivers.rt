@@ -3,9 +3,10 @@ ghost use Rattle.std.specs.Prelude.{◌≡◌, ◌≤◌, ◌<◌, ◌+◌, ◌^
 ghost use Rattle.clean_drivers.specs.Drivers.{LinesView, drivers_seen, HasLine, IsTalk, Asks};
 ghost use Rattle.clean_drivers.specs.Drivers.{lines_out, out_of, GivesLine, GivesBack};
 
+use crate::cause::CleanFault;
+use crate::line::CleanLine;
 use crate::single::run_single;
 use byte_path::Bytes;
-use clean_line::{CleanFault, CleanLine};
 use edge_kit::{Spawner, Starter};
 use one_shot::Once;
 use std::alloc::{AllocError, Global};
@@ -35,7 +36,7 @@ pub struct CleanDrivers<S: Starter> {
 
 impl<S: Starter> Model for CleanDrivers<S> {
     ghost use Rattle.std.specs.Prelude.{◌≡◌, ◌≤◌, ℕ, Some, slice_get};
-    ghost use Rattle.clean_line.specs.CleanLines.{CleanLineView, starts_of};
+    ghost use Rattle.clean_drivers.specs.CleanLines.{CleanLineView, starts_of};
     ghost use Rattle.clean_drivers.specs.Drivers.{LinesView};
 
     ghost Value = { LinesView };

@@ -2,8 +2,8 @@
 ghost use Rattle.std.specs.Prelude.{◌≡◌};
 ghost use Rattle.clean_drivers.specs.Singles.{RunsSingle, run_answer};
 
+use crate::cause::{CleanCause, CleanFault};
 use byte_path::Bytes;
-use clean_line::{CleanCause, CleanFault};
 use edge_kit::TakeFault;
 use one_shot::{Once, OnceEnd, once_command};
 use std::alloc::Global;

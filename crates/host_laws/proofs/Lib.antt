@@ -17,3 +17,10 @@ pub mod OnceFits
 pub mod KeptTalks
 pub mod PlainCaps
 pub mod Remembered
+pub mod Rising
+pub mod Sized
+pub mod KeptRuns
+pub mod Runs
+pub mod RunsAlike
+pub mod RunsGive
+pub mod Plain

@@ -1,3 +1,4 @@
+//! The laws of a client's talk with a host.
 ghost use Rattle.std.specs.Prelude.{◌≡◌, ◌≤◌, ◌++◌, Bool, true, List, ℕ, []};
 ghost use Rattle.pkt_line.specs.Packets.{total};
 ghost use Rattle.pkt_line.specs.Spelling.{spelling_all};

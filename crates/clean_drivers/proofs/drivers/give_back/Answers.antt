@@ -1,6 +1,6 @@
 use Rattle.std.proofs.Common.{◌≡◌, ◌∷◌, [], List, Option, length, refl, sym, ap, subst, ◌∙◌, arith}
 use Rattle.edge_kit.specs.Starters.{SpawnerSeen}
-use Rattle.clean_line.specs.CleanLines.{CleanLineView}
+use Rattle.clean_drivers.specs.CleanLines.{CleanLineView}
 use Rattle.clean_drivers.specs.Drivers.{GivesBack, lines_out}
 use Rattle.clean_drivers.proofs.drivers.give_back.Goals as goal
 

@@ -1,7 +1,7 @@
 use Rattle.std.proofs.Common.{◌≡◌, ◌<◌, ◌≤◌, ◌+◌, ℕ, List, Option, Some, inl, inr, None, length, refl, sym, ap, subst, ◌∙◌, arith}
 use Rattle.std.specs.Prelude.{slice_get, slice_set}
 use Rattle.edge_kit.specs.Starters.{SpawnerSeen}
-use Rattle.clean_line.specs.CleanLines.{CleanLineView, starts_of}
+use Rattle.clean_drivers.specs.CleanLines.{CleanLineView, starts_of}
 use Rattle.clean_drivers.specs.Drivers.{LinesView, drivers_seen, lines_out}
 use Rattle.clean_drivers.proofs.Places.{found_at, set_twice, set_same, starts_set, line_few, line_out}
 use Rattle.clean_drivers.proofs.drivers.talk.Goals as goal

@@ -1,6 +1,6 @@
 use Rattle.std.proofs.Common.{◌≡◌, ◌≤◌, ℕ, List, Option, Some, None, replicate, refl, sym, ap, subst, ◌∙◌, arith}
 use Rattle.std.specs.Prelude.{slice_get}
-use Rattle.clean_line.specs.CleanLines.{CleanLineView, starts_of}
+use Rattle.clean_drivers.specs.CleanLines.{CleanLineView, starts_of}
 use Rattle.clean_drivers.proofs.Places.{no_line}
 use Rattle.clean_drivers.proofs.drivers.CleanDrivers.new.Goals as goal
 

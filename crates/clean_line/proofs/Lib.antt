@@ -1,3 +1,0 @@
-mod Commands
-mod Turns
-mod Outputs

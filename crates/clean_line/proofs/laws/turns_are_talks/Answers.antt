@@ -1,5 +1,0 @@
-use Rattle.clean_line.proofs.Turns.{turns_are_talks}
-use Rattle.clean_line.proofs.laws.turns_are_talks.Goals as goal
-
-pub returns : goal.returns
-returns c = turns_are_talks

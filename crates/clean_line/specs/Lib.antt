@@ -1,4 +1,0 @@
-pub mod Causes
-pub mod CleanLines
-pub mod CleanTalks
-pub mod EqualAnswers

@@ -1,5 +1,0 @@
-use Rattle.smudge_laws.proofs.Runs.{own_heard}
-use Rattle.smudge_laws.proofs.served.runs_over_memory_are_heard.Goals as goal
-
-pub returns : goal.returns
-returns g c = own_heard c.single_runs_are_heard.ensures _ _ c.runs_over_memory_are_served.ensures

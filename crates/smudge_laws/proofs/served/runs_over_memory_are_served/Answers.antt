@@ -1,4 +1,0 @@
-use Rattle.smudge_laws.proofs.served.runs_over_memory_are_served.Goals as goal
-
-pub returns : goal.returns
-returns g c = c.sessions_are_served.ensures c.spawners_below_are_plain.ensures.memory

@@ -1,3 +1,0 @@
-pub mod SingleRuns
-pub mod RunsAlike
-pub mod RunsGive
