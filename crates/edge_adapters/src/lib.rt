@@ -11,6 +11,7 @@ mod folders;
 mod front;
 mod given_up;
 mod leaf_place;
+mod links;
 mod output_sink;
 mod paths;
 mod patient;
@@ -32,6 +33,7 @@ pub use folders::{
     create_in_tree, create_new, empty_file, folder_in_tree, link_in_tree, remove_own,
 };
 pub use leaf_place::LeafPlace;
+pub use links::link_text;
 pub use output_sink::OutputSink;
 pub use paths::path_in;
 pub use process_link::ProcessLink;

@@ -21,7 +21,7 @@ pub struct FoundRepository {
     pub replaces: bool,
     /// Whether git is one that can't say where the system's attribute file is: before 2.40.
     pub is_silent: bool,
-    /// The object that the revision names, in hex, or what a tag of that name is of, if a revision was asked for.
+    /// The object that the revision names, in hex, if one was asked for. For a tag it may be what that is of.
     pub object: Option<String>,
 }
 
@@ -216,9 +216,19 @@ fn find_parts(git: &Git) -> Result<FoundRepository, GitFault> {
     found_by(git, &answer, false)
 }
 
+/// The revision without the tags on its way. Behind a colon stands a path or a text, which a suffix would be a part of:
+/// such a revision is asked for as it is (gitrevisions(7)).
+fn without_tag(git: &Git, revision: &str) -> Result<String, AllocError> {
+    if revision.contains(':') {
+        String::from_str(git.alloc, revision)
+    } else {
+        format!(in git.alloc; "{revision}^{{}}")
+    }
+}
+
 /// Where git finds the parts of the repository, and the object of a revision.
 fn find_with(git: &Git, revision: &str) -> Result<FoundRepository, GitFault> {
-    let wanted = format!(in git.alloc; "{revision}^{{}}")?;
+    let wanted = without_tag(git, revision)?;
     let [verify, quiet, end] = NAMED;
     let more = [verify, quiet, end, wanted.as_str()];
     let answer = git.ask_more(ASKED.as_slice(), more.as_slice())?;
@@ -297,9 +307,10 @@ pub fn list(git: &Git) -> Result<SettingsList, GitFault> {
 /// What is asked of `git rev-parse` before a revision. It says nothing and ends with the status 1 if there is none.
 const NAMED: [&str; 3] = ["--verify", "--quiet", "--end-of-options"];
 
-/// The name of the tree of a commit, a tag or a tree, in hex, as git reads them.
-pub fn tree_by_git(git: &Git, revision: &str) -> Result<String, GitFault> {
-    let wanted = format!(in git.alloc; "{revision}^{{tree}}")?;
+/// The name of the tree of a commit, a tag or a tree with this name in hex, as git reads them. A refusal names the
+/// revision that it was found by.
+pub fn tree_by_git(git: &Git, object: &str, revision: &str) -> Result<String, GitFault> {
+    let wanted = format!(in git.alloc; "{object}^{{tree}}")?;
     let [verify, quiet, end] = NAMED;
     let answer = git.ask(&["rev-parse", verify, quiet, end, wanted.as_str()])?;
     if answer.status == Some(1) {

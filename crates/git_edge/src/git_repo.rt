@@ -9,6 +9,7 @@ use crate::index_lock::IndexLock;
 use crate::lender::lender_of;
 use crate::new_version::{next_version, version_at};
 use crate::object_pool::ObjectPool;
+use crate::scratch::scratch_fault;
 use crate::unmerged::unmerged_in;
 use crate::wanted_tree::{IndexLack, WantedTree};
 use byte_path::Bytes;
@@ -177,7 +178,8 @@ impl GitRepo {
 
     /// Why its index couldn't be read, if that is for want of a folder for temporary files.
     pub fn index_fault(&self) -> Option<GitFault> {
-        Some(GitFault::NoScratch(self.lack.unmade?))
+        let error = self.lack.unmade?;
+        Some(scratch_fault(self.git.rt, self.git.alloc, error))
     }
 
     /// Why its tree is refused, as words, if its index couldn't be made since that tree, or one below it, is lacking or

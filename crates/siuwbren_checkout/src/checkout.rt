@@ -2,6 +2,7 @@
 use crate::engine_call::{check_out_of, has_files};
 use crate::journal::journal_file;
 use crate::submodules::make_submodules;
+use crate::target::refused_target;
 use byte_path::Bytes;
 use exit_status::ExitStatus;
 use git_edge::{GitRepo, IndexLock};
@@ -98,6 +99,9 @@ pub fn check_out<H: Threads + Wait + Sync>(
     threads: &H,
     asked: &CheckoutWords<'_>,
 ) -> Result<u8, AllocError> {
+    if let Some(status) = refused_target(rt, asked.tree)? {
+        return Ok(status.number());
+    }
     match GitRepo::open(rt, asked.git_dir, asked.commit) {
         Ok(mut repo) => {
             let status = check_out_words(rt, threads, asked, &mut repo);

@@ -10,7 +10,7 @@ pub fn say(rt: HostRuntime, line: &str) {
 /// The status of a repository that can't be used.
 fn status_of(fault: &GitFault) -> ExitStatus {
     match fault {
-        GitFault::NoGit(_) | GitFault::TooOld | GitFault::NoScratch(_) => ExitStatus::ReadFault,
+        GitFault::NoGit(_) | GitFault::TooOld | GitFault::NoScratch(..) => ExitStatus::ReadFault,
         GitFault::NoMemory => ExitStatus::OutOfMemory,
         GitFault::Refused(_)
         | GitFault::NoRevision(_)
