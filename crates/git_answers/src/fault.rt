@@ -33,6 +33,12 @@ pub enum GitFault {
     /// The index's lock can't be made at this path.
     #[error("Unable to create '{0}': {1}")]
     NoLock(String, io::Error),
+    /// A file of the repository can't be read.
+    #[error("read fault: {0}: {1}")]
+    Unread(String, io::Error),
+    /// An object that was needed can't be read. The text is its name in hex.
+    #[error("read fault: object {0}")]
+    UnreadObject(String),
     #[error("out of memory")]
     NoMemory,
 }

@@ -144,13 +144,21 @@ fn answer_in<'a>(lines: &'a [&'a str]) -> Option<FoundLines<'a>> {
     })
 }
 
+/// A path of git's, by the folder in which git was started.
+fn from_folder(git: &Git, path: &str) -> Result<String, AllocError> {
+    match &git.folder {
+        Some(folder) if !path.starts_with('/') => format!(in git.alloc; "{folder}/{path}"),
+        _ => String::from_str(git.alloc, path),
+    }
+}
+
 /// The worktree's top, by the way that leads to it. `None` if it isn't UTF-8.
 fn top_of(git: &Git, up: Option<&str>) -> Result<Option<String>, GitFault> {
     let Some(up) = up else {
         return Ok(None);
     };
-    let way = if up.is_empty() { "." } else { up };
-    match canonicalize(&git.rt, way) {
+    let way = from_folder(git, if up.is_empty() { "." } else { up })?;
+    match canonicalize(&git.rt, way.as_str()) {
         Ok(top) => Ok(String::from_utf8(top.into_os_string().into_bytes()).ok()),
         Err(error) => Err(GitFault::Refused(format!(in git.alloc;
             "the top of the worktree can't be found: {error}"

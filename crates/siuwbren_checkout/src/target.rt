@@ -1,6 +1,7 @@
 //! The place of the folder that a checkout fills, looked at before anything is done.
 use exit_status::ExitStatus;
-use siuwbren_index::say;
+use reports::ReportForm;
+use siuwbren_index::refuse_wish;
 use std::alloc::AllocError;
 use std::fs::{metadata, symlink_metadata};
 use std::io;
@@ -31,11 +32,14 @@ fn need_folder(rt: HostRuntime, path: &str) -> io::Result<()> {
 }
 
 /// The status if no folder can be at this path: it is empty, or a file or a link that leads to no folder stands at it or
-/// at a part of it. Standard error says so.
-pub fn refused_target(rt: HostRuntime, tree: &str) -> Result<Option<ExitStatus>, AllocError> {
+/// at a part of it. It is said why, where a report is to have this form.
+pub fn refused_target(
+    rt: HostRuntime,
+    form: ReportForm,
+    tree: &str,
+) -> Result<Option<ExitStatus>, AllocError> {
     if tree.is_empty() {
-        say(rt, "error: TREE is an empty text");
-        return Ok(Some(ExitStatus::Usage));
+        return Ok(Some(refuse_wish(rt, form, "TREE is an empty text")));
     }
     let Some(path) = standing(rt, tree) else {
         return Ok(None);
@@ -43,7 +47,6 @@ pub fn refused_target(rt: HostRuntime, tree: &str) -> Result<Option<ExitStatus>,
     let Err(error) = need_folder(rt, path) else {
         return Ok(None);
     };
-    let text = format!(in rt.alloc(); "error: TREE can't be a folder: {path}: {error}")?;
-    say(rt, text.as_str());
-    Ok(Some(ExitStatus::Usage))
+    let words = format!(in rt.alloc(); "TREE can't be a folder: {path}: {error}")?;
+    Ok(Some(refuse_wish(rt, form, words.as_str())))
 }
