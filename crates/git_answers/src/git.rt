@@ -125,11 +125,7 @@ impl Git {
             Some(path) => is_worktree(rt, alloc, path)?,
             None => false,
         };
-        let (folder, named) = if is_top {
-            (named, None)
-        } else {
-            (None, named)
-        };
+        let (folder, named) = if is_top { (named, None) } else { (None, named) };
         Ok(Git {
             rt,
             alloc,

@@ -220,7 +220,13 @@ fn check_in_words<H: Threads + Wait + Sync>(
         Ok(tree) => tree,
         Err(status) => return Ok(status.number()),
     };
-    let lock = match index_lock(rt, ReportForm::Text, repo, asked.update_index, tree.as_str())? {
+    let lock = match index_lock(
+        rt,
+        ReportForm::Text,
+        repo,
+        asked.update_index,
+        tree.as_str(),
+    )? {
         Ok(lock) => lock,
         Err(status) => return Ok(status),
     };

@@ -10,7 +10,7 @@ use program_kit::JournalFile;
 use reports::ReportForm;
 use siuwbren_index::{
     allowed_submodules, end_run, end_with, index_lock, put_index, refuse_repository, show_error,
-    show_notes,    show_refusal,
+    show_notes, show_refusal,
 };
 use siuwbren_words::CheckoutWords;
 use std::alloc::AllocError;

@@ -17,9 +17,8 @@ const MOST_ENTRIES: u32 = 100_000;
 /// The key that a fault is about.
 fn key_of(fault: SettingFault) -> Option<KeyId> {
     match fault {
-        SettingFault::BadBool(key)
-        | SettingFault::BadNumber(key)
-        | SettingFault::BadChoice(key) => Some(key),
+        SettingFault::BadBool(key) | SettingFault::BadNumber(key) | SettingFault::BadChoice(key) =>
+            Some(key),
         SettingFault::NoMemory => None,
     }
 }
