@@ -8,11 +8,11 @@
 ghost use Rattle.std.specs.Prelude.{◌≤◌, IfOk, length};
 ghost use Rattle.checkin_edge.specs.Reads.{IsWithin};
 
-use edge_adapters::LeafPlace;
+use edge_adapters::{LeafPlace, link_text};
 use file_stat::stat_of;
 use git_index::Stat;
 use std::alloc::Global;
-use std::fs::{File, Metadata, read_link, symlink_metadata};
+use std::fs::{File, Metadata, symlink_metadata};
 use std::io;
 use std::io::{Error, ErrorKind, Read};
 use std::os::unix::fs::MetadataExt;
@@ -60,10 +60,10 @@ fn need_folders(rt: HostRuntime, path: &str, top: usize) -> io::Result<()> {
 }
 
 /// The text of a link within the limit.
-fn link_text(rt: HostRuntime, path: &str, found: &Metadata, limit: u64) -> io::Result<FileRead>
+fn link_read(alloc: Global, path: &str, found: &Metadata, limit: u64) -> io::Result<FileRead>
     ensures { IfOk result (IsWithin limit) }
 {
-    let text = read_link(&rt, path)?.into_os_string().into_bytes();
+    let text = link_text(alloc, path)?;
     if text.len() as u64 > limit {
         return Ok(FileRead::TooLong);
     }
@@ -131,7 +131,7 @@ fn read_there(
         return Ok(FileRead::OtherKind);
     }
     if found.is_symlink() {
-        return link_text(rt, path, &found, limit);
+        return link_read(alloc, path, &found, limit);
     }
     if !found.is_file() {
         return Err(Error::other("no regular file"));

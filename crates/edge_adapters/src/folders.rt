@@ -5,10 +5,11 @@
 //! the kit has no call that opens below an open folder: if another process puts a link in a folder's place between
 //! them, it is followed. The path of the worktree's folder itself may lead over links.
 
+use crate::links::make_link;
 use std::fs::{File, OpenOptions, create_dir, create_dir_all, remove_file, symlink_metadata};
 use std::io;
 use std::io::{ErrorKind, Seek, SeekFrom};
-use std::os::unix::fs::{MetadataExt, OpenOptionsExt, symlink};
+use std::os::unix::fs::{MetadataExt, OpenOptionsExt};
 
 /// Makes a file where nothing is, with this mode less the umask, and never through a link.
 pub fn create_new(rt: HostRuntime, path: &str, mode: u32) -> io::Result<File> {
@@ -61,9 +62,9 @@ fn create_below(rt: HostRuntime, path: &str, top: usize, mode: u32) -> io::Resul
 }
 
 /// Makes a link where nothing is, and its folders below the worktree's folder, which is there.
-fn link_below(rt: HostRuntime, text: &str, path: &str, top: usize) -> io::Result<()> {
+fn link_below(rt: HostRuntime, text: &[u8], path: &str, top: usize) -> io::Result<()> {
     make_folders(rt, path, top)?;
-    symlink(&rt, text, path)
+    make_link(text, path)
 }
 
 /// Makes the worktree's folder, which the first `top` bytes of the path name, and the folders that it is in.
@@ -87,7 +88,7 @@ pub fn create_in_tree(rt: HostRuntime, path: &str, top: usize, mode: u32) -> io:
 
 /// Makes a link with this text where nothing is, and its folders, as `create_in_tree` does. What it leads to isn't
 /// looked at.
-pub fn link_in_tree(rt: HostRuntime, text: &str, path: &str, top: usize) -> io::Result<()> {
+pub fn link_in_tree(rt: HostRuntime, text: &[u8], path: &str, top: usize) -> io::Result<()> {
     match link_below(rt, text, path, top) {
         Err(error) if error.kind() == ErrorKind::NotFound => {}
         made => return made,

@@ -11,6 +11,7 @@ mod folders;
 mod front;
 mod given_up;
 mod leaf_place;
+mod links;
 mod output_sink;
 mod past;
 mod paths;
@@ -33,6 +34,7 @@ pub use folders::{
     create_in_tree, create_new, empty_file, folder_in_tree, link_in_tree, remove_own,
 };
 pub use leaf_place::LeafPlace;
+pub use links::link_text;
 pub use output_sink::OutputSink;
 pub use past::Past;
 pub use paths::path_in;

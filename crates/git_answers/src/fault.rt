@@ -16,9 +16,9 @@ pub enum GitFault {
     /// Git finds no repository, or fails at a question on it. The text is git's own.
     #[error("{0}")]
     Refused(String),
-    /// Git's processes need a folder for temporary files, and none can be made.
-    #[error("no temporary folder can be made: {0}")]
-    NoScratch(io::Error),
+    /// Git's processes need a folder for temporary files, and none can be made in this one.
+    #[error("no temporary folder can be made in {0}: {1}")]
+    NoScratch(String, io::Error),
     #[error("'{0}' names no commit, tag or tree")]
     NoRevision(String),
     /// The names of objects are not by SHA-1. The text is git's word for what they are by.
@@ -33,16 +33,22 @@ pub enum GitFault {
     /// The index's lock can't be made at this path.
     #[error("Unable to create '{0}': {1}")]
     NoLock(String, io::Error),
+    /// A file of the repository can't be read.
+    #[error("read fault: {0}: {1}")]
+    Unread(String, io::Error),
+    /// An object that was needed can't be read. The text is its name in hex.
+    #[error("read fault: object {0}")]
+    UnreadObject(String),
     #[error("out of memory")]
     NoMemory,
 }
 
 impl GitFault {
-    /// Why a folder for temporary files couldn't be made.
-    pub fn of_scratch(error: io::Error) -> GitFault {
+    /// Why a folder for temporary files couldn't be made in this one.
+    pub fn of_scratch(base: String, error: io::Error) -> GitFault {
         match error.kind() {
             ErrorKind::OutOfMemory => GitFault::NoMemory,
-            _ => GitFault::NoScratch(error),
+            _ => GitFault::NoScratch(base, error),
         }
     }
 }

@@ -21,7 +21,7 @@ pub struct FoundRepository {
     pub replaces: bool,
     /// Whether git is one that can't say where the system's attribute file is: before 2.40.
     pub is_silent: bool,
-    /// The object that the revision names, in hex, or what a tag of that name is of, if a revision was asked for.
+    /// The object that the revision names, in hex, if one was asked for. For a tag it may be what that is of.
     pub object: Option<String>,
 }
 
@@ -144,13 +144,21 @@ fn answer_in<'a>(lines: &'a [&'a str]) -> Option<FoundLines<'a>> {
     })
 }
 
+/// A path of git's, by the folder in which git was started.
+fn from_folder(git: &Git, path: &str) -> Result<String, AllocError> {
+    match &git.folder {
+        Some(folder) if !path.starts_with('/') => format!(in git.alloc; "{folder}/{path}"),
+        _ => String::from_str(git.alloc, path),
+    }
+}
+
 /// The worktree's top, by the way that leads to it. `None` if it isn't UTF-8.
 fn top_of(git: &Git, up: Option<&str>) -> Result<Option<String>, GitFault> {
     let Some(up) = up else {
         return Ok(None);
     };
-    let way = if up.is_empty() { "." } else { up };
-    match canonicalize(&git.rt, way) {
+    let way = from_folder(git, if up.is_empty() { "." } else { up })?;
+    match canonicalize(&git.rt, way.as_str()) {
         Ok(top) => Ok(String::from_utf8(top.into_os_string().into_bytes()).ok()),
         Err(error) => Err(GitFault::Refused(format!(in git.alloc;
             "the top of the worktree can't be found: {error}"
@@ -216,9 +224,19 @@ fn find_parts(git: &Git) -> Result<FoundRepository, GitFault> {
     found_by(git, &answer, false)
 }
 
+/// The revision without the tags on its way. Behind a colon stands a path or a text, which a suffix would be a part of:
+/// such a revision is asked for as it is (gitrevisions(7)).
+fn without_tag(git: &Git, revision: &str) -> Result<String, AllocError> {
+    if revision.contains(':') {
+        String::from_str(git.alloc, revision)
+    } else {
+        format!(in git.alloc; "{revision}^{{}}")
+    }
+}
+
 /// Where git finds the parts of the repository, and the object of a revision.
 fn find_with(git: &Git, revision: &str) -> Result<FoundRepository, GitFault> {
-    let wanted = format!(in git.alloc; "{revision}^{{}}")?;
+    let wanted = without_tag(git, revision)?;
     let [verify, quiet, end] = NAMED;
     let more = [verify, quiet, end, wanted.as_str()];
     let answer = git.ask_more(ASKED.as_slice(), more.as_slice())?;
@@ -297,9 +315,10 @@ pub fn list(git: &Git) -> Result<SettingsList, GitFault> {
 /// What is asked of `git rev-parse` before a revision. It says nothing and ends with the status 1 if there is none.
 const NAMED: [&str; 3] = ["--verify", "--quiet", "--end-of-options"];
 
-/// The name of the tree of a commit, a tag or a tree, in hex, as git reads them.
-pub fn tree_by_git(git: &Git, revision: &str) -> Result<String, GitFault> {
-    let wanted = format!(in git.alloc; "{revision}^{{tree}}")?;
+/// The name of the tree of a commit, a tag or a tree with this name in hex, as git reads them. A refusal names the
+/// revision that it was found by.
+pub fn tree_by_git(git: &Git, object: &str, revision: &str) -> Result<String, GitFault> {
+    let wanted = format!(in git.alloc; "{object}^{{tree}}")?;
     let [verify, quiet, end] = NAMED;
     let answer = git.ask(&["rev-parse", verify, quiet, end, wanted.as_str()])?;
     if answer.status == Some(1) {

@@ -1,6 +1,7 @@
 //! How git is asked about one repository.
 use edge_kit::TakeFault;
 use std::alloc::{AllocError, Global};
+use std::fs::symlink_metadata;
 use std::io;
 use std::io::ErrorKind;
 use std::process::{Command, Output, Stdio};
@@ -14,6 +15,9 @@ pub struct Git {
     // the name or the path of the program git
     program: String,
     pub named: Option<String>,
+    /// The folder in which git is started, if it isn't that of the program: the worktree that was named in place of a
+    /// Git folder.
+    pub folder: Option<String>,
     // the folder of objects, if git isn't to use the one that it finds
     objects: Option<String>,
 }
@@ -97,15 +101,37 @@ pub fn copy_of(alloc: Global, text: Option<&str>) -> Result<Option<String>, Allo
     }
 }
 
+/// Whether something stands at the folder's path and this one in it.
+fn has(rt: HostRuntime, alloc: Global, folder: &str, name: &str) -> Result<bool, AllocError> {
+    let path = format!(in alloc; "{folder}/{name}")?;
+    Ok(symlink_metadata(&rt, path.as_str()).is_ok())
+}
+
+/// Whether the folder is the top of a worktree, and no Git folder itself (gitrepository-layout(5)).
+fn is_worktree(rt: HostRuntime, alloc: Global, folder: &str) -> Result<bool, AllocError> {
+    if !has(rt, alloc, folder, ".git")? {
+        return Ok(false);
+    }
+    let is_git_dir = has(rt, alloc, folder, "HEAD")? && has(rt, alloc, folder, "refs")?;
+    Ok(!is_git_dir)
+}
+
 impl Git {
-    /// Asks this program about the repository with this Git folder, or about the one that git finds.
+    /// Asks this program about the repository with this Git folder, or about the one that git finds: from a worktree,
+    /// if one is named in place of a Git folder.
     pub fn new(rt: HostRuntime, program: &str, named: Option<&str>) -> Result<Git, AllocError> {
         let alloc = rt.alloc();
+        let is_top = match named {
+            Some(path) => is_worktree(rt, alloc, path)?,
+            None => false,
+        };
+        let (folder, named) = if is_top { (named, None) } else { (None, named) };
         Ok(Git {
             rt,
             alloc,
             program: String::from_str(alloc, program)?,
             named: copy_of(alloc, named)?,
+            folder: copy_of(alloc, folder)?,
             objects: None,
         })
     }
@@ -114,6 +140,9 @@ impl Git {
     pub fn about(&self, named: Option<&str>, objects: Option<&str>) -> Result<Git, AllocError> {
         let mut git = Git::new(self.rt, self.program.as_str(), named)?;
         git.objects = copy_of(self.alloc, objects)?;
+        if named.is_none() {
+            git.folder = copy_of(self.alloc, self.folder.as_deref())?;
+        }
         Ok(git)
     }
 
@@ -121,6 +150,10 @@ impl Git {
         if let Some(folder) = &self.named {
             command.arg("--git-dir")?;
             command.arg(folder.as_str())?;
+        }
+        if let Some(folder) = &self.folder {
+            command.current_dir(folder.as_str())?;
+            command.env_remove("GIT_DIR")?;
         }
         if let Some(folder) = &self.objects {
             command.env("GIT_OBJECT_DIRECTORY", folder.as_str())?;

@@ -10,6 +10,7 @@ mod finding;
 mod git;
 mod listing;
 mod notes;
+mod placed_setting;
 mod sharing;
 
 pub use attribute_files::base_attributes;
@@ -18,4 +19,5 @@ pub use finding::{FoundRepository, find, list, tree_by_git};
 pub use git::{Answer, Git, copy_of, fault_of};
 pub use listing::SettingsList;
 pub use notes::{Met, notes_of, place_of, word_of};
+pub use placed_setting::refused_setting;
 pub use sharing::sharing_of;

@@ -71,6 +71,10 @@ pub fn word_of(alloc: Global, text: &str) -> Result<String, AllocError> {
 
 /// How a shell calls git for the same repository.
 fn call_of(git: &Git) -> Result<String, AllocError> {
+    if let Some(folder) = &git.folder {
+        let folder = word_of(git.alloc, folder.as_str())?;
+        return format!(in git.alloc; "git -C {folder}");
+    }
     match &git.named {
         Some(folder) => {
             let folder = word_of(git.alloc, folder.as_str())?;

@@ -9,7 +9,9 @@ use crate::index_lock::IndexLock;
 use crate::lender::lender_of;
 use crate::new_version::{next_version, version_at};
 use crate::object_pool::ObjectPool;
+use crate::scratch::scratch_fault;
 use crate::unmerged::unmerged_in;
+use crate::unread_file::unread_file;
 use crate::wanted_tree::{IndexLack, WantedTree};
 use byte_path::Bytes;
 use edge_adapters::{DriverPlace, read_whole};
@@ -17,7 +19,7 @@ use edge_kit::{Repo, TakeFault};
 use file_stat::Sharing;
 use git_answers::{
     FoundRepository, Git, GitFault, Met, SettingsList, base_attributes, copy_of, find, list,
-    notes_of, place_of, sharing_of, word_of,
+    notes_of, place_of, refused_setting, sharing_of, word_of,
 };
 use git_index::{Version, index_version};
 use git_tree::Keeps;
@@ -175,9 +177,33 @@ impl GitRepo {
         self.index = Some(index);
     }
 
-    /// Why its index couldn't be read, if that is for want of a folder for temporary files.
-    pub fn index_fault(&self) -> Option<GitFault> {
-        Some(GitFault::NoScratch(self.lack.unmade?))
+    /// Why something of it couldn't be read, if that is known: for want of a folder for temporary files, or by what the
+    /// system says of the index and of `info/attributes`, or the name of an object.
+    pub fn read_fault(&self) -> Option<GitFault> {
+        if let Some(error) = self.lack.unmade {
+            return Some(scratch_fault(self.git.rt, self.git.alloc, error));
+        }
+        if self.tree.is_none() {
+            if let Some(fault) = unread_file(&self.git, self.found.index.as_str()) {
+                return Some(fault);
+            }
+        }
+        if let Some(fault) = unread_file(&self.git, self.found.info.as_str()) {
+            return Some(fault);
+        }
+        self.unread_object()
+    }
+
+    /// The first object that was given back with a fault.
+    fn unread_object(&self) -> Option<GitFault> {
+        let (name, _) = self.returned.iter().find(|object| object.1 > 0)?;
+        let name = hex::encode(self.git.alloc, name.as_slice()).ok()?;
+        Some(GitFault::UnreadObject(name))
+    }
+
+    /// The line of the setting with this key, for which it is refused: its value, and where it stands.
+    pub fn refused_setting(&self, key: &str) -> Option<String> {
+        refused_setting(&self.git, key)
     }
 
     /// Why its tree is refused, as words, if its index couldn't be made since that tree, or one below it, is lacking or

@@ -1,6 +1,6 @@
 //! What gives the objects of a repository.
 use crate::object_pool::ObjectPool;
-use crate::scratch::Scratch;
+use crate::scratch::{Scratch, scratch_fault};
 use git_answers::{FoundRepository, Git, GitFault, SettingsList};
 use git_objects::USUAL_BASES;
 use std::fs::{create_dir, write};
@@ -37,7 +37,7 @@ pub fn lender_of(
     if listing.promisor().is_some() {
         return match borrowing(git, found, most_of_bases) {
             Ok(pool) => Ok(pool),
-            Err(error) => Err(GitFault::of_scratch(error)),
+            Err(error) => Err(scratch_fault(git.rt, git.alloc, error)),
         };
     }
     let own = git.about(git.named.as_deref(), None)?;

@@ -17,6 +17,7 @@ mod object_pool;
 mod object_reader;
 mod scratch;
 mod unmerged;
+mod unread_file;
 mod wanted_tree;
 
 pub use git_answers::GitFault;

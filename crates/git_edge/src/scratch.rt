@@ -1,5 +1,6 @@
 //! A folder for what git is to write.
 use crate::keeper::Keeper;
+use git_answers::GitFault;
 use std::alloc::{AllocError, Global};
 use std::env::temp_dir;
 use std::fs::{DirBuilder, remove_dir_all};
@@ -21,6 +22,12 @@ pub struct Scratch {
     pub path: String,
 }
 
+/// The variable that names the folder for temporary files.
+const VARIABLE: &str = "TMPDIR";
+
+/// The folder for temporary files where no variable names one.
+const OTHERWISE: &str = "/tmp";
+
 /// How many names are tried.
 const TRIES: u32 = 1000;
 
@@ -30,13 +37,33 @@ fn make_private(rt: HostRuntime, path: &str) -> io::Result<()> {
     builder.create(&rt, path)
 }
 
+/// The folder for temporary files: `TMPDIR`, or else `/tmp`, also where the variable is empty.
+fn base_of(rt: HostRuntime, alloc: Global) -> io::Result<String> {
+    let base = format!(in alloc; "{}", temp_dir(&rt)?.display())?;
+    if base.is_empty() {
+        return Ok(String::from_str(alloc, OTHERWISE)?);
+    }
+    Ok(base)
+}
+
+/// Why a folder for temporary files couldn't be made, by the system's error.
+pub fn scratch_fault(rt: HostRuntime, alloc: Global, error: io::Error) -> GitFault {
+    match base_of(rt, alloc) {
+        Ok(base) => GitFault::of_scratch(base, error),
+        Err(error) => match String::from_str(alloc, VARIABLE) {
+            Ok(name) => GitFault::of_scratch(name, error),
+            Err(_) => GitFault::NoMemory,
+        },
+    }
+}
+
 impl Scratch {
-    /// Makes a folder in the folder for temporary files (`TMPDIR`, or else `/tmp`), under a name that was free.
+    /// Makes a folder in the folder for temporary files, under a name that was free.
     pub fn make(rt: HostRuntime, alloc: Global) -> io::Result<Scratch> {
-        let base = temp_dir(&rt)?;
+        let base = base_of(rt, alloc)?;
         let id = process::id(rt.process());
         for number in 0..TRIES {
-            let path = format!(in alloc; "{}/siuwbren-{id}-{number}", base.display())?;
+            let path = format!(in alloc; "{base}/siuwbren-{id}-{number}")?;
             match Scratch::at(rt, alloc, path) {
                 Err(error) if error.kind() == ErrorKind::AlreadyExists => {}
                 made => return made,

@@ -54,12 +54,13 @@ impl WantedTree {
         revision: &str,
     ) -> Result<WantedTree, GitFault> {
         let is_for_git = found.replaces;
-        if let (false, Some(object)) = (is_for_git, &found.object) {
-            if let Some(name) = tree_here(git, pool, object.as_str())? {
+        let object = found.object.as_deref().unwrap_or(revision);
+        if !is_for_git {
+            if let Some(name) = tree_here(git, pool, object)? {
                 return Ok(WantedTree { name, is_for_git });
             }
         }
-        let name = tree_by_git(git, revision)?;
+        let name = tree_by_git(git, object, revision)?;
         Ok(WantedTree { name, is_for_git })
     }
 

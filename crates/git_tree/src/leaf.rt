@@ -197,10 +197,8 @@ impl GitLeaf {
     /// Makes a link whose text is what was put, up to the first NUL: the system knows no other text.
     fn make_link(&self) -> io::Result<()> {
         let text = self.text.as_slice().split(|byte| *byte == 0).next();
-        match str::from_utf8(text.unwrap_or(&[])) {
-            Ok(text) => link_in_tree(self.rt, text, self.place.full(), self.place.top()),
-            Err(_) => Err(io::Error::from(ErrorKind::InvalidFilename)),
-        }
+        let text = text.unwrap_or(&[]);
+        link_in_tree(self.rt, text, self.place.full(), self.place.top())
     }
 
     /// Ends the file, which is made even if it is empty. Where a driver has run, it has to have its name still.

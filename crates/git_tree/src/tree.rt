@@ -10,6 +10,7 @@ use edge_adapters::{LeafPlace, WriteErrors, holds_nothing};
 use edge_kit::{Failed, LeafState, Mark, Worktree};
 use git_index::Stat;
 use std::alloc::{AllocError, Global};
+use std::io;
 use std::io::ErrorKind;
 use std::sync::Arc;
 use std::sync::atomic::AtomicBool;
@@ -41,6 +42,8 @@ pub struct GitTree {
     returned: Vec<(Bytes, LeafState, u64)>,
     // whether a driver has run
     driven: Driven,
+    // why the folder couldn't be looked at
+    unread: Option<io::Error>,
     // what the leaves that were given back failed for
     errors: WriteErrors,
     last: Option<LastFolder>,
@@ -69,6 +72,7 @@ impl GitTree {
             out: 0,
             returned: Vec::new(alloc),
             driven,
+            unread: None,
             errors: WriteErrors::new(alloc),
             last: None,
             looks: false,
@@ -93,6 +97,11 @@ impl GitTree {
             }
         }
         Ok(told)
+    }
+
+    /// Why the folder couldn't be looked at, if it couldn't be.
+    pub fn unread(&self) -> Option<&io::Error> {
+        self.unread.as_ref()
     }
 
     /// What the leaves that were given back failed for.
@@ -159,6 +168,7 @@ impl Worktree for GitTree {
             Err(error) => match error.kind() {
                 ErrorKind::NotFound => Ok(true),
                 _ => {
+                    self.unread = Some(error);
                     self.faults = self.faults.saturating_add(1);
                     Err(Failed)
                 }

@@ -8,26 +8,44 @@
 #![tactic(auto)]
 
 mod ends;
+mod folder_words;
 mod journal;
 mod plan;
 mod rehearsed;
 
 use crate::ends::{give, refuse_words};
+use crate::folder_words::go_to_folders;
 use crate::journal::audit;
 use crate::plan::show_plan;
 use crate::rehearsed::rehearse;
 use edge_adapters::hold_standard;
 use exit_status::ExitStatus;
 use program_kit::words_of;
+use reports::ReportForm;
 use siuwbren_checkin::check_in_tree;
 use siuwbren_checkout::check_out;
-use siuwbren_index::end_with;
+use siuwbren_index::{end_with, show_error_of};
 use siuwbren_words::{Subcommand, UsageFault, read_words};
 use std::alloc::AllocError;
 use std::env::args;
 use std::process::ExitCode;
 use std::sync::Wait;
 use std::thread::Threads;
+
+/// The form of the command's report.
+fn form_of(command: &Subcommand<'_>) -> ReportForm {
+    match command {
+        Subcommand::Checkout(asked) => asked.form,
+        Subcommand::Plan(asked) => asked.form,
+        _ => ReportForm::Text,
+    }
+}
+
+/// Ends a command that ran out of memory.
+fn end_without_memory(rt: HostRuntime, command: &Subcommand<'_>) -> u8 {
+    let status = ExitStatus::OutOfMemory.number();
+    show_error_of(rt, form_of(command), end_with(rt, status))
+}
 
 /// Does what a command asks for.
 fn obey<H: Threads + Wait + Sync>(
@@ -52,8 +70,15 @@ fn run_words<H: Threads + Wait + Sync>(rt: HostRuntime, threads: &H) -> Result<u
     if !are_text {
         return Ok(refuse_words(rt, "error: a word is not UTF-8\n"));
     }
-    match read_words(rt.alloc(), words.as_slice()) {
-        Ok(command) => obey(rt, threads, &command),
+    let words = match go_to_folders(rt, words.as_slice())? {
+        Ok(words) => words,
+        Err(status) => return Ok(status),
+    };
+    match read_words(rt.alloc(), words) {
+        Ok(command) => match obey(rt, threads, &command) {
+            Ok(status) => Ok(status),
+            Err(AllocError) => Ok(end_without_memory(rt, &command)),
+        },
         Err(UsageFault::Wish(text)) => Ok(give(rt, text.as_str())),
         Err(UsageFault::Wrong(text)) => Ok(refuse_words(rt, text.as_str())),
         Err(UsageFault::NoMemory) => Err(AllocError),

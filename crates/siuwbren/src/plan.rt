@@ -3,8 +3,7 @@ use checkout_engine::report_plan;
 use checkout_sources::read_plan;
 use exit_status::ExitStatus;
 use git_edge::GitRepo;
-use program_kit::show_refused_path;
-use siuwbren_index::{end_run, end_with, refuse_guarded, refuse_repository, sink_of};
+use siuwbren_index::{end_run, end_with, refuse_guarded, refuse_repository, show_refusal, sink_of};
 use siuwbren_words::PlanWords;
 use std::alloc::AllocError;
 
@@ -20,9 +19,9 @@ fn show_plan_of(
     let planned = read_plan(rt.alloc(), repo);
     let mut out = sink_of(rt, asked.form);
     let status = report_plan(rt.alloc(), asked.form, &mut out, planned);
-    end_run(rt, status.number(), repo);
+    end_run(rt, asked.form, status.number(), repo);
     if matches!(status, ExitStatus::Refused) {
-        show_refused_path(rt, repo);
+        show_refusal(rt, repo);
     }
     Ok(status.number())
 }
@@ -35,6 +34,6 @@ pub fn show_plan(rt: HostRuntime, asked: &PlanWords<'_>) -> Result<u8, AllocErro
             repo.end();
             status
         }
-        Err(fault) => Ok(refuse_repository(rt, &fault)),
+        Err(fault) => Ok(refuse_repository(rt, asked.form, &fault)),
     }
 }

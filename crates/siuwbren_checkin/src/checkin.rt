@@ -6,12 +6,12 @@ use edge_kit::Repo;
 use exit_status::ExitStatus;
 use file_stat::Sharing;
 use git_edge::{GitRepo, IndexLock};
-use program_kit::{EndedCheckin, check_in, show_refused_path};
+use program_kit::{EndedCheckin, check_in};
 use reports::ReportForm;
 use siuwbren_index::{
     CheckedIn, IndexMarks, LookedPaths, MOST_INDEX, end_run, end_with, hold_assumed, index_lock,
     index_of_checkin, links_of, put_beside, put_made, refuse_guarded, refuse_repository,
-    refused_tree, say, show_kept, show_notes, take_kinds, tree_of,
+    refused_tree, say, show_kept, show_notes, show_refusal, take_kinds, tree_of,
 };
 use siuwbren_words::CheckinWords;
 use std::alloc::AllocError;
@@ -162,9 +162,9 @@ fn show_index(rt: HostRuntime, repo: &GitRepo) -> Result<(), AllocError> {
 
 /// Says what else is to be said of a status, of a repository and of the folder that was checked in.
 fn explain(rt: HostRuntime, status: u8, repo: &mut GitRepo, tree: &str) -> Result<(), AllocError> {
-    end_run(rt, status, repo);
+    end_run(rt, ReportForm::Text, status, repo);
     match ExitStatus::of(status) {
-        Some(ExitStatus::Refused) => show_refused_path(rt, repo),
+        Some(ExitStatus::Refused) => show_refusal(rt, repo),
         Some(ExitStatus::Done | ExitStatus::DoneWithFailures) => show_kept(rt, repo, tree)?,
         _ => {}
     }
@@ -187,7 +187,7 @@ fn allowed_sharing(
     }
     match repo.sharing() {
         Ok(sharing) => Ok(Ok(sharing)),
-        Err(fault) => Ok(Err(refuse_repository(rt, &fault))),
+        Err(fault) => Ok(Err(refuse_repository(rt, ReportForm::Text, &fault))),
     }
 }
 
@@ -220,7 +220,13 @@ fn check_in_words<H: Threads + Wait + Sync>(
         Ok(tree) => tree,
         Err(status) => return Ok(status.number()),
     };
-    let lock = match index_lock(rt, repo, asked.update_index, tree.as_str())? {
+    let lock = match index_lock(
+        rt,
+        ReportForm::Text,
+        repo,
+        asked.update_index,
+        tree.as_str(),
+    )? {
         Ok(lock) => lock,
         Err(status) => return Ok(status),
     };
@@ -243,7 +249,7 @@ pub fn check_in_tree<H: Threads + Wait + Sync>(
 ) -> Result<u8, AllocError> {
     let mut repo = match GitRepo::open(rt, asked.git_dir, None) {
         Ok(repo) => repo,
-        Err(fault) => return Ok(refuse_repository(rt, &fault)),
+        Err(fault) => return Ok(refuse_repository(rt, ReportForm::Text, &fault)),
     };
     let ended = check_in_words(rt, threads, asked, &mut repo);
     repo.end();

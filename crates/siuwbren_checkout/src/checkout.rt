@@ -1,13 +1,16 @@
 //! A checkout from a git folder, with what stands beside its files.
-use crate::engine_call::{check_out_of, has_files};
+use crate::engine_call::{CheckedOut, check_out_of, has_files};
 use crate::journal::journal_file;
 use crate::submodules::make_submodules;
+use crate::target::refused_target;
 use byte_path::Bytes;
 use exit_status::ExitStatus;
-use git_edge::{GitRepo, IndexLock};
-use program_kit::{JournalFile, show_refused_path};
+use git_edge::{GitFault, GitRepo, IndexLock};
+use program_kit::JournalFile;
+use reports::ReportForm;
 use siuwbren_index::{
-    allowed_submodules, end_run, end_with, index_lock, put_index, refuse_repository, show_notes,
+    allowed_submodules, end_run, end_with, index_lock, put_index, refuse_repository, show_error,
+    show_notes, show_refusal,
 };
 use siuwbren_words::CheckoutWords;
 use std::alloc::AllocError;
@@ -24,15 +27,44 @@ struct Beside {
     submodules: Vec<Bytes>,
 }
 
-/// Says what else is to be said of a status and of a repository.
-fn explain(rt: HostRuntime, status: u8, is_quiet: bool, repo: &mut GitRepo) {
-    end_run(rt, status, repo);
-    if status == ExitStatus::Refused.number() {
-        show_refused_path(rt, repo);
+/// Says what a status means, by the folder if that couldn't be looked at, and else by the repository.
+fn show_end(
+    rt: HostRuntime,
+    asked: &CheckoutWords<'_>,
+    left: &CheckedOut,
+    repo: &GitRepo,
+) -> Result<(), AllocError> {
+    if let Some(error) = left.unread {
+        let folder = String::from_str(rt.alloc(), asked.tree)?;
+        refuse_repository(rt, asked.form, &GitFault::Unread(folder, error));
+    } else {
+        end_run(rt, asked.form, left.status.number(), repo);
     }
-    if !is_quiet {
+    Ok(())
+}
+
+/// The status where no journal can be made, of which standard error has said why.
+fn refuse_journal(rt: HostRuntime, form: ReportForm, path: &str) -> Result<u8, AllocError> {
+    let words = format!(in rt.alloc(); "journal '{path}': no file can be made")?;
+    let status = ExitStatus::Usage.number();
+    Ok(show_error(rt, form, status, words.as_str()))
+}
+
+/// Says what else is to be said of a checkout and of a repository.
+fn explain(
+    rt: HostRuntime,
+    asked: &CheckoutWords<'_>,
+    left: &CheckedOut,
+    repo: &mut GitRepo,
+) -> Result<(), AllocError> {
+    show_end(rt, asked, left, repo)?;
+    if matches!(left.status, ExitStatus::Refused) {
+        show_refusal(rt, repo);
+    }
+    if !asked.quiet {
         show_notes(rt, repo);
     }
+    Ok(())
 }
 
 /// Checks out a repository into an empty folder, and writes what is to be written beside.
@@ -53,7 +85,7 @@ fn check_out_all<H: Threads + Wait + Sync>(
         make_submodules(rt, asked.tree, submodules.as_slice())?;
     }
     let mut status = left.status.number();
-    explain(rt, status, asked.quiet, repo);
+    explain(rt, asked, &left, repo)?;
     if let (Some(lock), Some(bytes)) = (&mut index, &left.index) {
         status = put_index(rt, lock, bytes.as_slice(), status)?;
     }
@@ -70,7 +102,7 @@ fn check_out_words<H: Threads + Wait + Sync>(
     asked: &CheckoutWords<'_>,
     repo: &mut GitRepo,
 ) -> Result<u8, AllocError> {
-    let index = match index_lock(rt, repo, asked.update_index, asked.tree)? {
+    let index = match index_lock(rt, asked.form, repo, asked.update_index, asked.tree)? {
         Ok(index) => index,
         Err(status) => return Ok(status),
     };
@@ -86,7 +118,7 @@ fn check_out_words<H: Threads + Wait + Sync>(
     if let Some(path) = asked.journal {
         beside.journal = journal_file(rt, path)?;
         if beside.journal.is_none() {
-            return Ok(ExitStatus::Usage.number());
+            return Ok(refuse_journal(rt, asked.form, path)?);
         }
     }
     check_out_all(rt, threads, asked, repo, beside)
@@ -98,12 +130,15 @@ pub fn check_out<H: Threads + Wait + Sync>(
     threads: &H,
     asked: &CheckoutWords<'_>,
 ) -> Result<u8, AllocError> {
+    if let Some(status) = refused_target(rt, asked.form, asked.tree)? {
+        return Ok(status.number());
+    }
     match GitRepo::open(rt, asked.git_dir, asked.commit) {
         Ok(mut repo) => {
             let status = check_out_words(rt, threads, asked, &mut repo);
             repo.end();
             status
         }
-        Err(fault) => Ok(refuse_repository(rt, &fault)),
+        Err(fault) => Ok(refuse_repository(rt, asked.form, &fault)),
     }
 }

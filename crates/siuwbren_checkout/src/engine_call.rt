@@ -16,6 +16,7 @@ use program_kit::{CountingTree, Progress, show_drivers, show_errors};
 use siuwbren_index::{sink_of, updated_index};
 use siuwbren_words::{CheckoutWords, WorkerCount};
 use std::alloc::AllocError;
+use std::io;
 use std::mem::forget;
 use std::sync::atomic::{AtomicBool, AtomicU32};
 use std::sync::{Arc, Wait};
@@ -29,6 +30,8 @@ pub struct CheckedOut {
     pub status: ExitStatus,
     /// The index with what is told of the files, if that is asked for and each path was looked at.
     pub index: Option<Vec<u8>>,
+    /// Why the folder couldn't be looked at, if it couldn't be.
+    pub unread: Option<io::Error>,
 }
 
 /// How many workers are asked for.
@@ -117,7 +120,13 @@ fn check_out_with<P: Spawner, H: Threads + Wait + Sync>(
     progress.end();
     show_errors(rt, tree.tree.errors());
     let index = index_after(rt, asked, repo, &tree.tree, status)?;
-    Ok(CheckedOut { end, status, index })
+    let unread = tree.tree.unread().copied();
+    Ok(CheckedOut {
+        end,
+        status,
+        index,
+        unread,
+    })
 }
 
 /// Checks out a repository that is open, and reports that.

@@ -10,5 +10,6 @@ mod driver_gate;
 mod engine_call;
 mod journal;
 mod submodules;
+mod target;
 
 pub use checkout::check_out;

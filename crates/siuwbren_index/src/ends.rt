@@ -1,8 +1,10 @@
 //! What standard error says of how a command ended.
+use crate::error_value::show_error_of;
 use crate::faults::refuse_repository;
 use exit_status::ExitStatus;
 use git_edge::GitRepo;
 use program_kit::message_of;
+use reports::ReportForm;
 
 /// Says what a status of the engine means.
 pub fn end_with(rt: HostRuntime, status: u8) -> u8 {
@@ -12,12 +14,15 @@ pub fn end_with(rt: HostRuntime, status: u8) -> u8 {
     status
 }
 
-/// Says what a status of the engine means over a repository: for want of a temporary folder its index can't be read.
-pub fn end_run(rt: HostRuntime, status: u8, repo: &GitRepo) -> u8 {
-    match repo.index_fault() {
-        Some(fault) if status == ExitStatus::ReadFault.number() => refuse_repository(rt, &fault),
-        _ => end_with(rt, status),
+/// Says what a status of the engine means over a repository: of a read fault what couldn't be read.
+/// A report is to have this form.
+pub fn end_run(rt: HostRuntime, form: ReportForm, status: u8, repo: &GitRepo) -> u8 {
+    if status == ExitStatus::ReadFault.number() {
+        if let Some(fault) = repo.read_fault() {
+            return refuse_repository(rt, form, &fault);
+        }
     }
+    show_error_of(rt, form, end_with(rt, status))
 }
 
 /// Says what git would do otherwise.

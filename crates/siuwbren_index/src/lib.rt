@@ -9,11 +9,13 @@ mod assumed;
 mod channel;
 mod checkin_index;
 mod ends;
+mod error_value;
 mod faults;
 mod guarded;
 mod kept_notes;
 mod kinds;
 mod own_index;
+mod refusal;
 mod update_index;
 mod worktree;
 
@@ -23,9 +25,11 @@ pub use checkin_index::{
     CheckedIn, IndexMarks, LookedPaths, index_of_checkin, put_beside, put_made,
 };
 pub use ends::{end_run, end_with, show_notes};
-pub use faults::{refuse_repository, say};
+pub use error_value::{show_error, show_error_of};
+pub use faults::{refuse_repository, refuse_wish, say};
 pub use kept_notes::show_kept;
 pub use kinds::take_kinds;
 pub use own_index::{MOST_INDEX, allowed_submodules, links_of, refuse_guarded};
+pub use refusal::show_refusal;
 pub use update_index::{index_lock, put_index, updated_index};
 pub use worktree::{refused_tree, tree_of};

@@ -1,7 +1,7 @@
 //! The index that a checkout or a check-in leaves, with what is told of its files, so that git needn't read them.
 ghost use Rattle.git_index.specs.Spelling.{CanStand};
 
-use crate::faults::{refuse_repository, say};
+use crate::faults::{refuse_repository, refuse_wish, say};
 use crate::own_index::MOST_INDEX;
 use crate::worktree::is_same_folder;
 use checkin_edge::{RawEntry, RawIndex};
@@ -9,6 +9,7 @@ use edge_kit::Repo;
 use exit_status::ExitStatus;
 use git_edge::{GitFault, GitRepo, IndexLock};
 use git_index::{Entry, Stat, Version, entries_can_stand, read_index, spell_stat_index};
+use reports::ReportForm;
 use std::alloc::{AllocError, Global};
 use tree_cache::{TreeCache, cache_of, with_tree_cache};
 
@@ -23,36 +24,35 @@ remove the file manually to continue.";
 /// Says why a folder isn't the worktree of a repository, if it isn't.
 fn refused_tree(
     rt: HostRuntime,
+    form: ReportForm,
     repo: &GitRepo,
     tree: &str,
 ) -> Result<Option<ExitStatus>, AllocError> {
     let Some(top) = repo.worktree()? else {
-        say(
-            rt,
-            "error: the repository has no worktree, whose index is to be updated",
-        );
-        return Ok(Some(ExitStatus::Usage));
+        let words = "the repository has no worktree, whose index is to be updated";
+        return Ok(Some(refuse_wish(rt, form, words)));
     };
     if is_same_folder(rt, tree, top.as_str()) {
         return Ok(None);
     }
-    let text = format!(in rt.alloc(); "error: --update-index needs the worktree for TREE: {top}")?;
-    say(rt, text.as_str());
-    Ok(Some(ExitStatus::Usage))
+    let words = format!(in rt.alloc(); "--update-index needs the worktree for TREE: {top}")?;
+    Ok(Some(refuse_wish(rt, form, words.as_str())))
 }
 
 /// Says why the index can't be locked, and gives the status.
-fn refuse_lock(rt: HostRuntime, fault: &GitFault) -> u8 {
-    let status = refuse_repository(rt, fault);
+fn refuse_lock(rt: HostRuntime, form: ReportForm, fault: &GitFault) -> u8 {
+    let status = refuse_repository(rt, form, fault);
     if matches!(fault, GitFault::Locked(_)) {
         say(rt, LOCKED);
     }
     status
 }
 
-/// The lock of the index, if that is to become the one of the files in this folder, or the status if it can't.
+/// The lock of the index, if that is to become the one of the files in this folder, or the status if it can't. A report
+/// is to have this form.
 pub fn index_lock(
     rt: HostRuntime,
+    form: ReportForm,
     repo: &GitRepo,
     is_asked: bool,
     tree: &str,
@@ -60,12 +60,12 @@ pub fn index_lock(
     if !is_asked {
         return Ok(Ok(None));
     }
-    if let Some(status) = refused_tree(rt, repo, tree)? {
+    if let Some(status) = refused_tree(rt, form, repo, tree)? {
         return Ok(Err(status.number()));
     }
     match repo.lock_index() {
         Ok(lock) => Ok(Ok(Some(lock))),
-        Err(fault) => Ok(Err(refuse_lock(rt, &fault))),
+        Err(fault) => Ok(Err(refuse_lock(rt, form, &fault))),
     }
 }
 

@@ -95,7 +95,7 @@ fn git_dir<'a>(alloc: Global) -> Arg<'a>
         alloc,
         "git-dir",
         "DIR",
-        "The repository's git folder [default: the one that git finds]",
+        "The repository's git folder, or its worktree [default: the one that git finds]",
     )
 }
 
@@ -318,7 +318,7 @@ fn top<'a>(alloc: Global) -> Command<'a>
     Command::new(alloc, "siuwbren")
         .version("0.1.0")
         .about("Checks out a Git repository into an empty folder")
-        .override_usage("siuwbren COMMAND")
+        .override_usage("siuwbren [-C DIR] COMMAND")
         .no_binary_name(true)
         .subcommand_required(true)
 }

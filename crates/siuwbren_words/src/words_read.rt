@@ -14,7 +14,32 @@ use crate::parser::siuwbren;
 use crate::values::Mistake;
 use clap::error::ErrorKind;
 use clap::{ArgMatches, Error};
-use std::alloc::Global;
+use std::alloc::{AllocError, Global};
+
+/// How `clap` begins a line that says how an option that isn't known would be taken for a path.
+const ADVICE: &str = "\n  tip: to pass ";
+
+/// A text of `clap` without that line, and without the blank one before it.
+fn without_advice(alloc: Global, text: String) -> Result<String, AllocError> {
+    let Some((before, rest)) = text.split_once(ADVICE) else {
+        return Ok(text);
+    };
+    let behind = match rest.split_once('\n') {
+        Some((_, behind)) => behind,
+        None => "",
+    };
+    let before = match before.strip_suffix("\n") {
+        Some(whole) => whole,
+        None => before,
+    };
+    format!(in alloc; "{before}\n{behind}")
+}
+
+/// A refusal of `clap` in its words.
+fn words_of(alloc: Global, error: &Error) -> Result<String, AllocError> {
+    let text = format!(in alloc; "{error}")?;
+    without_advice(alloc, text)
+}
 
 /// What a refusal of `clap` comes to.
 fn fault_of(alloc: Global, error: &Error) -> UsageFault
@@ -24,7 +49,7 @@ fn fault_of(alloc: Global, error: &Error) -> UsageFault
     if kind == ErrorKind::OutOfMemory {
         return UsageFault::NoMemory;
     }
-    let Ok(text) = format!(in alloc; "{error}") else {
+    let Ok(text) = words_of(alloc, error) else {
         return UsageFault::NoMemory;
     };
     match kind {
