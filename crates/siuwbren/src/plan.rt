@@ -27,9 +27,9 @@ fn show_plan_of(
     Ok(status.number())
 }
 
-/// Shows what a checkout of a repository's index would do.
+/// Shows what a checkout of a repository's index, or of a commit, would do.
 pub fn show_plan(rt: HostRuntime, asked: &PlanWords<'_>) -> Result<u8, AllocError> {
-    match GitRepo::open(rt, asked.git_dir, None) {
+    match GitRepo::open(rt, asked.git_dir, asked.commit) {
         Ok(mut repo) => {
             let status = show_plan_of(rt, asked, &mut repo);
             repo.end();
