@@ -4,7 +4,7 @@ use checkout_sources::read_plan;
 use exit_status::ExitStatus;
 use git_edge::GitRepo;
 use program_kit::show_refused_path;
-use siuwbren_index::{end_run, end_with, refuse_guarded, refuse_repository, sink_of};
+use siuwbren_index::{GatheredSink, end_run, end_with, refuse_guarded, refuse_repository};
 use siuwbren_words::PlanWords;
 use std::alloc::AllocError;
 
@@ -18,8 +18,9 @@ fn show_plan_of(
         return Ok(end_with(rt, status.number()));
     }
     let planned = read_plan(rt.alloc(), repo);
-    let mut out = sink_of(rt, asked.form);
-    let status = report_plan(rt.alloc(), asked.form, &mut out, planned);
+    let mut out = GatheredSink::new(rt, asked.form);
+    let reported = report_plan(rt.alloc(), asked.form, &mut out, planned);
+    let status = out.end(reported);
     end_run(rt, status.number(), repo);
     if matches!(status, ExitStatus::Refused) {
         show_refused_path(rt, repo);

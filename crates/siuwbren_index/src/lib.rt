@@ -10,6 +10,7 @@ mod channel;
 mod checkin_index;
 mod ends;
 mod faults;
+mod gathered_sink;
 mod guarded;
 mod kept_notes;
 mod kinds;
@@ -24,6 +25,7 @@ pub use checkin_index::{
 };
 pub use ends::{end_run, end_with, show_notes};
 pub use faults::{refuse_repository, say};
+pub use gathered_sink::GatheredSink;
 pub use kept_notes::show_kept;
 pub use kinds::take_kinds;
 pub use own_index::{MOST_INDEX, allowed_submodules, links_of, refuse_guarded};
