@@ -62,7 +62,7 @@ _siuwbren() {
         case $command in
           checkout) words='--git-dir --commit --workers --report -z --journal --progress --no-progress -q --quiet -u --update-index --help' ;;
           checkin) words='--git-dir --allow-empty -u --update-index --help' ;;
-          plan) words='--git-dir --report -z --help' ;;
+          plan) words='--git-dir --commit --report -z --help' ;;
           rehearse | audit) words='--help' ;;
         esac
         if [[ $command == check* && $current != -* ]]; then

@@ -13,7 +13,7 @@ use git_edge::GitRepo;
 use git_tree::{Driven, GitTree, Keeps};
 use one_shot::OnceSpawner;
 use program_kit::{CountingTree, Progress, show_drivers, show_errors};
-use siuwbren_index::{sink_of, updated_index};
+use siuwbren_index::{GatheredSink, updated_index};
 use siuwbren_words::{CheckoutWords, WorkerCount};
 use std::alloc::AllocError;
 use std::io;
@@ -115,8 +115,9 @@ fn check_out_with<P: Spawner, H: Threads + Wait + Sync>(
         spawner,
         asked_workers(asked.workers),
     );
-    let mut out = sink_of(rt, asked.form);
-    let status = report_checkout(alloc, asked.form, &mut out, &end);
+    let mut out = GatheredSink::new(rt, asked.form);
+    let reported = report_checkout(alloc, asked.form, &mut out, &end);
+    let status = out.end(reported);
     progress.end();
     show_errors(rt, tree.tree.errors());
     let index = index_after(rt, asked, repo, &tree.tree, status)?;

@@ -11,6 +11,7 @@ mod checkin_index;
 mod ends;
 mod error_value;
 mod faults;
+mod gathered_sink;
 mod guarded;
 mod kept_notes;
 mod kinds;
@@ -27,6 +28,7 @@ pub use checkin_index::{
 pub use ends::{end_run, end_with, show_notes};
 pub use error_value::{show_error, show_error_of};
 pub use faults::{refuse_repository, refuse_wish, say};
+pub use gathered_sink::GatheredSink;
 pub use kept_notes::show_kept;
 pub use kinds::take_kinds;
 pub use own_index::{MOST_INDEX, allowed_submodules, links_of, refuse_guarded};

@@ -34,6 +34,7 @@ pub record AskedCheckin : Type 0 where
 
 pub record AskedPlan : Type 0 where
   pub git_dir : Option Text
+  pub commit : Option Text
   pub form : ReportForm
 
 -- a command by its texts
@@ -66,7 +67,11 @@ shown_checkin c = record {
 }
 
 abbrev pub shown_plan : PlanWords → AskedPlan
-shown_plan p = record { git_dir = option_map (λ t. t.now) p.git_dir; form = p.form }
+shown_plan p = record {
+  git_dir = option_map (λ t. t.now) p.git_dir;
+  commit = option_map (λ t. t.now) p.commit;
+  form = p.form;
+}
 
 abbrev pub shown : Subcommand → Asked
 shown (command.Checkout c) = checkout (shown_checkout c)
@@ -110,7 +115,11 @@ checkin_by rows = record {
 
 abbrev pub plan_by : List Row → Option AskedPlan
 plan_by rows =
-    option_map (λ form. record { git_dir = first_of (codes "git-dir") rows; form = form })
+    option_map (λ form. record {
+      git_dir = first_of (codes "git-dir") rows;
+      commit = first_of (codes "commit") rows;
+      form = form;
+    })
     (plan_form (first_of (codes "report") rows) (has_flag rows (codes "nul")))
 
 -- SEED, a decimal up to 2^64 - 1, and PATHS, a decimal up to 99,999

@@ -62,11 +62,14 @@ checkin_source =
 unfoldable pub checkin_app : App
 checkin_app = with_rule (with_rule checkin_source update_rule) (free_rule (codes "tree"))
 
--- plan [--git-dir DIR] [--report FORM] [-z]
+-- plan [--git-dir DIR] [--commit REV] ..
+unfoldable pub plan_source : App
+plan_source =
+    with_rule (with_rule (new_app (codes "plan")) (option_rule (codes "git-dir"))) (option_rule (codes "commit"))
+
+-- .. [--report FORM] [-z]
 unfoldable pub plan_app : App
-plan_app =
-    with_rule (with_rule (with_rule (new_app (codes "plan")) (option_rule (codes "git-dir")))
-    (option_rule (codes "report"))) (letter_rule (codes "nul") 122)
+plan_app = with_rule (with_rule plan_source (option_rule (codes "report"))) (letter_rule (codes "nul") 122)
 
 -- rehearse SEED PATHS
 unfoldable pub rehearse_app : App

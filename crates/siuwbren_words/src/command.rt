@@ -37,6 +37,8 @@ pub struct CheckoutWords<'a> {
 pub struct PlanWords<'a> {
     /// The git folder, or none for the one that git finds.
     pub git_dir: Option<&'a str>,
+    /// The commit, tag or tree to plan for, or none for the index.
+    pub commit: Option<&'a str>,
     pub form: ReportForm,
 }
 

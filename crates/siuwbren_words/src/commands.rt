@@ -53,6 +53,7 @@ fn plan_of<'a>(matches: &ArgMatches<'a>) -> Result<PlanWords<'a>, Mistake<'a>>
     let form = plan_form(value_of(matches, "report"), has_flag(matches, "nul"))?;
     Ok(PlanWords {
         git_dir: value_of(matches, "git-dir"),
+        commit: value_of(matches, "commit"),
         form,
     })
 }

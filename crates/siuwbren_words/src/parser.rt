@@ -3,8 +3,8 @@ ghost use Rattle.std.specs.Prelude.{◌≡◌, IfOk, false, codes};
 ghost use Rattle.clap.specs.Words.{app_of, rule_of};
 ghost use Rattle.clap.specs.declared.builder.command.Command.TheViews.{out-Command};
 ghost use Rattle.siuwbren_words.specs.Parser.{option_rule, flag_rule, letter_rule, place_rule, free_rule};
-ghost use Rattle.siuwbren_words.specs.Parser.{checkout_app, checkin_source, checkin_app, plan_app, rehearse_app};
-ghost use Rattle.siuwbren_words.specs.Parser.{audit_app};
+ghost use Rattle.siuwbren_words.specs.Parser.{checkout_app, checkin_source, checkin_app, plan_source, plan_app};
+ghost use Rattle.siuwbren_words.specs.Parser.{rehearse_app, audit_app};
 ghost use Rattle.siuwbren_words.specs.Parser.{quiet_rule, update_rule, checkout_source, checkout_report, checkout_progress};
 ghost use Rattle.siuwbren_words.specs.Parser.{top_app, repository_app, siuwbren_app};
 
@@ -31,8 +31,8 @@ refused, 4 if output failed, 5 out of memory, 6 for a read fault, 7 if TREE has 
 See siuwbren(1).";
 
 const PLAN_END: &str = "\
-Example:
-  siuwbren plan --git-dir /srv/project.git --report json";
+Example, of a commit in a bare repository:
+  siuwbren plan --git-dir /srv/project.git --commit v1.0 --report json";
 
 const REHEARSE_END: &str = "\
 Example, whose line is the same on each machine:
@@ -260,23 +260,38 @@ fn checkin<'a>(alloc: Global) -> Result<Command<'a>, AllocError>
     first.arg(tree)
 }
 
+/// What is planned.
+fn plan_source<'a>(alloc: Global) -> Result<Command<'a>, AllocError>
+    ensures app { IfOk result (λ command. app_of command ≡ plan_source) }
+    ensures local { IfOk result (λ command. (out-Command command).has_globals ≡ false) }
+{
+    let dir = git_dir(alloc);
+    let bare = Command::new(alloc, "plan");
+    let first = bare.arg(dir)?;
+    let commit = option(
+        alloc,
+        "commit",
+        "REV",
+        "A commit, tag or tree to plan for [default: the index]",
+    );
+    first.arg(commit)
+}
+
 fn plan<'a>(alloc: Global) -> Result<Command<'a>, AllocError>
     ensures app { IfOk result (λ command. app_of command ≡ plan_app) }
     ensures local { IfOk result (λ command. (out-Command command).has_globals ≡ false) }
 {
-    let bare = Command::new(alloc, "plan");
+    let source = plan_source(alloc)?;
     let told = with_texts(
-        bare,
-        "Show what a checkout of the index would do",
+        source,
+        "Show what a checkout of the index, or of a commit, would do",
         "siuwbren plan [OPTIONS]",
         PLAN_END,
     );
-    let dir = git_dir(alloc);
-    let first = told.arg(dir)?;
     let report = option(alloc, "report", "FORM", "text or json [default: text]");
-    let second = first.arg(report)?;
+    let first = told.arg(report)?;
     let nul = nul(alloc);
-    second.arg(nul)
+    first.arg(nul)
 }
 
 fn rehearse<'a>(alloc: Global) -> Result<Command<'a>, AllocError>
