@@ -50,10 +50,11 @@ fn checkin_of<'a>(matches: &ArgMatches<'a>) -> CheckinWords<'a>
 fn plan_of<'a>(matches: &ArgMatches<'a>) -> Result<PlanWords<'a>, Mistake<'a>>
     ensures { option_map shown_plan (result_ok result) ≡ plan_by (rows_of (found_of matches.now)) }
 {
+    let commit = value_of(matches, "commit");
     let form = plan_form(value_of(matches, "report"), has_flag(matches, "nul"))?;
     Ok(PlanWords {
         git_dir: value_of(matches, "git-dir"),
-        commit: value_of(matches, "commit"),
+        commit,
         form,
     })
 }
