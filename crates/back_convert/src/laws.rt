@@ -11,12 +11,13 @@ ghost use Rattle.back_convert.specs.Encoding.{back_encoded};
 ghost use Rattle.back_convert.specs.Laws.{is_text, in_tree, back_ident_if, stored, conversion};
 ghost use Rattle.back_convert.specs.Laws.{HasSafeEnds, HasSafeKeywords, HasSafeMark, HasSafeMarkIf};
 
+use byte_path::ObjectId;
 use eol_convert::Action;
 use tree_encoding::Encoding;
 
 /// The law that keywords come back: where a content has no expanded keyword, expanding its keywords and undoing that
 /// gives the content. It does nothing.
-pub fn ident_comes_back(content: &[u8], name: &[u8; 20])
+pub fn ident_comes_back(content: &[u8], name: &ObjectId)
     requires { has_expanded content.now ≡ false }
     ensures { back_ident (expanded (keyword_text name.now) content.now) ≡ content.now }
 {}
@@ -29,7 +30,7 @@ pub fn ends_come_back(content: &[u8], action: Action)
 {}
 
 /// The law that a content comes back from the worktree, but for its encoding. It does nothing.
-pub fn text_comes_back(content: &[u8], name: &[u8; 20], action: Action, ident: bool)
+pub fn text_comes_back(content: &[u8], name: &ObjectId, action: Action, ident: bool)
     requires ends { HasSafeEnds ident action name.now content.now }
     requires keywords { HasSafeKeywords ident content.now }
     ensures { back_ident_if ident
@@ -48,7 +49,7 @@ pub fn encoding_comes_back(content: &[u8], encoding: Encoding)
 /// as the same content again. The index still has it. It does nothing.
 pub fn content_comes_back(
     content: &[u8],
-    name: &[u8; 20],
+    name: &ObjectId,
     ident: bool,
     action: Action,
     encoding: Option<Encoding>,
@@ -64,7 +65,7 @@ pub fn content_comes_back(
 
 /// The law that line ends are safe where the action isn't one of the two text actions: a binary file stays, and so does
 /// an automatic one whose index's content has a CR directly before an LF. It does nothing.
-pub fn other_ends_are_safe(content: &[u8], name: &[u8; 20], ident: bool, action: Action)
+pub fn other_ends_are_safe(content: &[u8], name: &ObjectId, ident: bool, action: Action)
     requires { is_text action ≡ false }
     ensures { HasSafeEnds ident action name.now content.now }
 {}

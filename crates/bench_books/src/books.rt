@@ -3,6 +3,7 @@ ghost use Rattle.std.specs.Prelude.{◌≡◌, IfOk};
 ghost use Rattle.convert_plan.specs.Card.{IsNewCard};
 ghost use Rattle.checkout_book.specs.Sights.{sight, seen};
 
+use byte_path::ObjectId;
 use crate::cards::new_card;
 use crate::lists::both;
 use crate::runs::{by_all, by_one_worker};
@@ -18,15 +19,15 @@ use std::sync::Wait;
 use std::time::Instant;
 
 /// The name of the object with the content `hello` and a line feed.
-const HELLO: [u8; 20] =
+const HELLO: ObjectId =
     *b"\xce\x01\x36\x25\x03\x0b\xa8\xdb\xa9\x06\xf7\x56\x96\x7f\x9e\x9c\xa3\x94\x46\x4a";
 
 /// The name of the object with the content `hi` and a line feed.
-const HI: [u8; 20] =
+const HI: ObjectId =
     *b"\x45\xb9\x83\xbe\x36\xb7\x3c\x07\x88\xdc\x9c\xbc\xb7\x6c\xbb\x80\xfc\x7b\xb0\x57";
 
 /// An object's name, and its raw bytes.
-fn object(alloc: Global, name: &[u8; 20], raw: &[u8]) -> Result<([u8; 20], Vec<u8>), AllocError> {
+fn object(alloc: Global, name: &ObjectId, raw: &[u8]) -> Result<(ObjectId, Vec<u8>), AllocError> {
     let stored = Vec::from_slice(alloc, raw)?;
     Ok((*name, stored))
 }
@@ -49,7 +50,7 @@ fn outside(alloc: Global) -> Result<(MemoryRepo, MemoryTree), AllocError> {
 /// New cards of path 0 and of path 1, and the second has this object.
 fn two_cards(
     alloc: Global,
-    object: &[u8; 20],
+    object: &ObjectId,
 ) -> Result<(Card<MemoryBlob, MemoryLeaf>, Card<MemoryBlob, MemoryLeaf>), AllocError>
     ensures first { IfOk result (λ r. r.0.path ≡ 0) }
     ensures second { IfOk result (λ r. r.1.path ≡ 1) }
@@ -109,7 +110,7 @@ fn tell_worker<R: Print + Wait + AllocGlobal>(rt: &R, cards: u32) -> io::Result<
 /// a turn, and the caller so many of those that are left. The size of each object is told in the order of the parts.
 fn tell_pair<R: Print + Wait + AllocGlobal>(
     rt: &R,
-    object: &[u8; 20],
+    object: &ObjectId,
     claims: u32,
     left: u32,
 ) -> io::Result<()> {

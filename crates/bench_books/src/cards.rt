@@ -4,7 +4,7 @@ ghost use Rattle.convert_plan.specs.Card.{IsNewCard, IsRefusedCard};
 ghost use Rattle.checkout_book.specs.Sights.{sight, seen};
 ghost use Rattle.bench_books.specs.Pools.{IsPool};
 
-use byte_path::Bytes;
+use byte_path::{Bytes, ObjectId};
 use checkout_core::Start;
 use convert_plan::{Card, Conversion, prepare};
 use edge_kit::{Blob, Leaf, Mark, Repo, Worktree};
@@ -18,7 +18,7 @@ pub fn new_card<R: Repo, W: Worktree>(
     repo: &mut R,
     tree: &mut W,
     path: u32,
-    object: &[u8; 20],
+    object: &ObjectId,
 ) -> Result<Card<R::Blob, W::Leaf>, AllocError>
     ensures path { IfOk result (λ c. c.path ≡ path) }
     ensures new { IfOk result (λ c. IsNewCard (seen (sight R.Blob.told R.Blob.seen W.Leaf.seen) c)) }

@@ -1,5 +1,6 @@
 //! The conversions, and a copy beside them.
 use back_convert::{Action, BackFault, back_encode, back_ends, back_ident};
+use byte_path::ObjectId;
 use eol_convert::{LineEnds, to_tree_ends};
 use ident_convert::expand_ident;
 use std::alloc::{AllocError, Global};
@@ -12,7 +13,7 @@ use tree_encoding::{Encoding, encode};
 const TURNS: u32 = 20;
 
 /// The name of a blob.
-const NAME: [u8; 20] = [0x5A; 20];
+const NAME: ObjectId = [0x5A; 20];
 
 /// What is done with a content.
 #[derive(Clone, Copy)]

@@ -5,6 +5,7 @@ ghost use Rattle.sha1.specs.Sha1.{sha1};
 ghost use Rattle.checkout_book.specs.Sights.{sight};
 ghost use Rattle.card_worker.specs.Holding.{AreSame, AreSameSlots, stored_in_slot};
 
+use byte_path::ObjectId;
 use crate::few::{Few, ROOM};
 use crate::held::{Held, keep_known, read_held};
 use edge_kit::{Blob, Leaf};
@@ -72,7 +73,7 @@ pub(crate) fn is_enough<B: Blob, L: Leaf>(cards: &[Option<Held<B, L>>]) -> bool 
 }
 
 /// Keeps the SHA-1 of the stored bytes of a card's object, if there are any.
-fn keep_sha1<B: Blob, L: Leaf>(slot: &mut Option<Held<B, L>>, found: [u8; 20])
+fn keep_sha1<B: Blob, L: Leaf>(slot: &mut Option<Held<B, L>>, found: ObjectId)
     requires { found ≡ sha1 (stored_in_slot slot.old) }
     ensures same { AreSame (sight B.told B.seen L.seen) (option_to_list slot.old) (option_to_list slot.new) }
     ensures stored { stored_in_slot slot.new ≡ stored_in_slot slot.old }

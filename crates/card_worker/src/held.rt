@@ -5,6 +5,7 @@ ghost use Rattle.convert_plan.specs.Card.{card_seen};
 ghost use Rattle.checkout_book.specs.Sights.{sight};
 ghost use Rattle.card_worker.specs.Holding.{HoldsCard, SameHeld, IsToBeWritten, IsWrittenSo, stored_in_held};
 
+use byte_path::ObjectId;
 use crate::leaf::write_leaf;
 use crate::written::{Written, write_card};
 use convert_plan::Card;
@@ -55,7 +56,7 @@ pub(crate) fn read_held<B: Blob, L: Leaf>(held: &mut Held<B, L>)
 }
 
 /// Keeps the SHA-1 of what was taken, if there is any.
-pub(crate) fn keep_known<B: Blob, L: Leaf>(held: &mut Held<B, L>, found: [u8; 20])
+pub(crate) fn keep_known<B: Blob, L: Leaf>(held: &mut Held<B, L>, found: ObjectId)
     requires { found ≡ sha1 (stored_in_held held.old) }
     ensures same { SameHeld (sight B.told B.seen L.seen) held.old held.new }
     ensures stored { stored_in_held held.new ≡ stored_in_held held.old }

@@ -1,4 +1,5 @@
 //! An index as git spells it (gitformat-index(5)).
+use byte_path::ObjectId;
 use case_kit::unknown;
 use std::alloc::{AllocError, Global};
 use std::test::Fail;
@@ -38,7 +39,7 @@ pub fn kind_of(letter: u8) -> Result<Kind, Fail> {
 pub fn push_entry(
     index: &mut Vec<u8>,
     kind: Kind,
-    name: &[u8; 20],
+    name: &ObjectId,
     path: &[u8],
 ) -> Result<(), AllocError> {
     let len = path.len() % 0x1000;

@@ -1,4 +1,5 @@
 //! The objects of each repository.
+use byte_path::ObjectId;
 use case_kit::unknown;
 use std::alloc::{AllocError, Global};
 use std::test::Fail;
@@ -7,7 +8,7 @@ use std::test::Fail;
 #[derive(Clone, Copy)]
 struct Object {
     letter: u8,
-    name: [u8; 20],
+    name: ObjectId,
     stored: &'static [u8],
 }
 
@@ -47,7 +48,7 @@ const OBJECTS: [Object; 6] = [
 ];
 
 /// The name of the object with this letter. There is none with the name of `9`.
-pub fn name_of(letter: u8) -> Result<[u8; 20], Fail> {
+pub fn name_of(letter: u8) -> Result<ObjectId, Fail> {
     if letter == b'9' {
         return Ok([9; 20]);
     }
@@ -60,7 +61,7 @@ pub fn name_of(letter: u8) -> Result<[u8; 20], Fail> {
 }
 
 /// Appends the objects with their names, as they are stored.
-fn push_objects(alloc: Global, objects: &mut Vec<([u8; 20], Vec<u8>)>) -> Result<(), AllocError> {
+fn push_objects(alloc: Global, objects: &mut Vec<(ObjectId, Vec<u8>)>) -> Result<(), AllocError> {
     for object in OBJECTS {
         let stored = Vec::from_slice(alloc, object.stored)?;
         objects.push((object.name, stored))?;
@@ -69,7 +70,7 @@ fn push_objects(alloc: Global, objects: &mut Vec<([u8; 20], Vec<u8>)>) -> Result
 }
 
 /// The objects with their names, as they are stored.
-pub fn objects(alloc: Global) -> Result<Vec<([u8; 20], Vec<u8>)>, AllocError> {
+pub fn objects(alloc: Global) -> Result<Vec<(ObjectId, Vec<u8>)>, AllocError> {
     let mut objects = Vec::new(alloc);
     push_objects(alloc, &mut objects)?;
     Ok(objects)

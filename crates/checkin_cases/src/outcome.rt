@@ -1,7 +1,7 @@
 //! A check-in, and what it leaves.
 use crate::case::{Case, no_once, repo_of};
 use crate::long_files::LongFiles;
-use byte_path::{Bytes, Items};
+use byte_path::{Bytes, Items, ObjectId};
 use case_kit::push_all;
 use checkin_engine::checkin;
 use checkin_paths::{MemoryFiles, MemoryKeep};
@@ -115,7 +115,7 @@ fn push_drivers(seen: &mut Vec<u8>, drivers: &[DriverSeen]) -> Result<(), AllocE
 fn push_object(
     alloc: Global,
     seen: &mut Vec<u8>,
-    name: &[u8; 20],
+    name: &ObjectId,
     stored: &[u8],
 ) -> Result<(), AllocError> {
     let name = hex::encode(alloc, *name)?;

@@ -3,6 +3,7 @@ ghost use Rattle.std.specs.Prelude.{◌≡◌, ◌++◌, IfOk, None, string_byte
 ghost use Rattle.edge_kit.specs.Faults.{AfterSend};
 ghost use Rattle.checkin_edge.specs.Places.{folder_of, file_of};
 
+use byte_path::ObjectId;
 use crate::held_entries::{HeldEntry, with_held};
 use crate::new_file::{ObjectFolder, replace_file, write_once};
 use crate::stored_object::has_object;
@@ -47,7 +48,7 @@ pub struct FolderKeep {
 }
 
 /// The folder of the object with this name, in a folder of objects: by the first two digits of the name.
-fn object_folder(alloc: Global, objects: &str, name: &[u8; 20]) -> Result<String, AllocError>
+fn object_folder(alloc: Global, objects: &str, name: &ObjectId) -> Result<String, AllocError>
     ensures { IfOk result (λ path. string_bytes path ≡ folder_of objects.now name.now) }
 {
     let (first, _) = name.as_slice().split_at(1);
@@ -56,7 +57,7 @@ fn object_folder(alloc: Global, objects: &str, name: &[u8; 20]) -> Result<String
 }
 
 /// The file of the object with this name, in its folder: by the other 38 digits.
-fn object_file(alloc: Global, folder: &str, name: &[u8; 20]) -> Result<String, AllocError>
+fn object_file(alloc: Global, folder: &str, name: &ObjectId) -> Result<String, AllocError>
     ensures { IfOk result (λ path. string_bytes path ≡ file_of folder.now name.now) }
 {
     let (_, others) = name.as_slice().split_at(1);
@@ -138,7 +139,7 @@ impl FolderKeep {
     }
 
     /// Writes an object's file, unless it is there with just these bytes.
-    fn write_object(&self, name: &[u8; 20], raw: &[u8]) -> io::Result<()> {
+    fn write_object(&self, name: &ObjectId, raw: &[u8]) -> io::Result<()> {
         let folder = object_folder(self.alloc, self.objects.as_str(), name)?;
         let path = object_file(self.alloc, folder.as_str(), name)?;
         if has_object(self.rt, self.form, path.as_str(), raw)? {
@@ -199,7 +200,7 @@ impl FolderKeep {
 impl Keep for FolderKeep {
     ghost seen = { λ k. record { objects = None; index = None; faults = k.faults } };
 
-    fn object(&mut self, name: &[u8; 20], raw: &[u8]) -> Result<(), SendFault> {
+    fn object(&mut self, name: &ObjectId, raw: &[u8]) -> Result<(), SendFault> {
         let written = self.write_object(name, raw);
         self.counted(written)
     }

@@ -3,13 +3,13 @@ ghost use Rattle.std.specs.Prelude.{◌≡◌, ◌++◌, IfOk, OnOk};
 ghost use Rattle.checkin_engine.specs.Indexes.{entry_after, with_name};
 ghost use Rattle.checkin_engine.specs.InTurn.{next_fate, fates_behind, entries_in_turn};
 
-use byte_path::Bytes;
+use byte_path::{Bytes, ObjectId};
 use checkin_paths::Fate;
 use git_index::Entry;
 use std::alloc::{AllocError, Global};
 
 /// A copy of an entry with this name.
-fn with_name(alloc: Global, entry: &Entry, name: [u8; 20]) -> Result<Entry, AllocError>
+fn with_name(alloc: Global, entry: &Entry, name: ObjectId) -> Result<Entry, AllocError>
     ensures { IfOk result (λ e. e ≡ with_name name entry.now) }
 {
     Ok(Entry {

@@ -5,6 +5,7 @@ ghost use Rattle.reports.specs.Forms.{path_row};
 ghost use Rattle.checkin_paths.specs.declared.fate.Fate.TheVariants.{Changed, Failed};
 ghost use Rattle.checkin_engine.specs.Rows.{state_field, fate_row, numbers_row, done_row, checkin_rows};
 
+use byte_path::ObjectId;
 use crate::report::{changed_count, failed_count, gone_count, kept_count, same_count};
 use checkin_paths::{CheckinCause, CheckinPath, Fate};
 use reports::{Cell, CellValue, Count, PathRow, ReportForm, Row, Rows, spelled};
@@ -36,7 +37,7 @@ fn changed_row(
     alloc: Global,
     form: ReportForm,
     path: &[u8],
-    name: [u8; 20],
+    name: ObjectId,
 ) -> Result<Vec<u8>, AllocError>
     ensures { IfOk result (λ v. v.items ≡ fate_row form path.now (Changed name)) }
 {

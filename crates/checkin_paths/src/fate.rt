@@ -2,6 +2,7 @@
 ghost use Rattle.std.specs.Prelude.{◌≡◌};
 ghost use Rattle.checkin_paths.specs.Fates.{cause_word};
 
+use byte_path::ObjectId;
 use clean_drivers::CleanCause;
 
 /// Why a path isn't checked in.
@@ -29,7 +30,7 @@ pub enum Fate {
     /// It has the object of its entry.
     Same,
     /// It has another object, of this name.
-    Changed([u8; 20]),
+    Changed(ObjectId),
     /// It has no file.
     Gone,
     /// Its entry stays, and its file isn't looked at.

@@ -6,6 +6,7 @@ ghost use Rattle.checkin_paths.specs.Outcomes.{MakesBlob};
 ghost use Rattle.checkin_paths.specs.Looks.{AnswersWithout, AnswersCrlf, LooksOld, IsFoundBy};
 ghost use Rattle.checkin_paths.specs.Looks.{IsUnfailedTake, FindsThere, FindsTaken, Finds, found_failed};
 
+use byte_path::ObjectId;
 use crate::files::Files;
 use crate::path::CheckinPath;
 use back_convert::has_crlf;
@@ -71,7 +72,7 @@ fn crlf_of(content: Result<Vec<u8>, ObjectFault>) -> Result<Option<bool>, AllocE
 fn read_old<R: Repo>(
     alloc: Global,
     repo: &mut R,
-    name: &[u8; 20],
+    name: &ObjectId,
 ) -> Result<Option<bool>, AllocError>
     ensures told { R.told repo.new ≡ R.told repo.old }
     ensures looks { IfOk result (LooksOld true ((R.told repo.old).object name.now) name.now
@@ -86,7 +87,7 @@ fn old_for<R: Repo>(
     alloc: Global,
     repo: &mut R,
     action: Action,
-    name: &[u8; 20],
+    name: &ObjectId,
 ) -> Result<Option<bool>, AllocError>
     ensures told { R.told repo.new ≡ R.told repo.old }
     ensures looks { IfOk result (LooksOld (is_auto action) ((R.told repo.old).object name.now) name.now
@@ -118,7 +119,7 @@ fn found_by(old: Option<bool>, bytes: Option<Vec<u8>>) -> Found
 fn find_there<R: Repo>(
     alloc: Global,
     repo: &mut R,
-    name: &[u8; 20],
+    name: &ObjectId,
     action: Action,
     bytes: Option<Vec<u8>>,
 ) -> Result<Found, AllocError>
@@ -146,7 +147,7 @@ fn found_failed(by_kind: bool) -> Found
 fn find_taken<R: Repo>(
     alloc: Global,
     repo: &mut R,
-    name: &[u8; 20],
+    name: &ObjectId,
     action: Action,
     taken: Result<Option<Vec<u8>>, TakeFault>,
     by_kind: bool,

@@ -1,6 +1,7 @@
 //! What keeps the objects and the index of a check-in.
 ghost use Rattle.checkin_paths.specs.Outside.{KeepSeen, KeepsObject, KeepsIndex};
 
+use byte_path::ObjectId;
 use edge_kit::SendFault;
 
 /// Keeps objects and an index. What failed isn't kept.
@@ -9,7 +10,7 @@ pub trait Keep {
     ghost seen: { Self → KeepSeen };
 
     /// Keeps the object with this name and these stored bytes.
-    fn object(&mut self, name: &[u8; 20], raw: &[u8]) -> Result<(), SendFault>
+    fn object(&mut self, name: &ObjectId, raw: &[u8]) -> Result<(), SendFault>
         ensures { KeepsObject name.now raw.now (seen self.old) (seen self.new) result };
 
     /// Keeps an index in place of the last one.

@@ -8,6 +8,7 @@ ghost use Rattle.checkin_paths.specs.CleanedFiles.{cleaning};
 ghost use Rattle.checkin_paths.specs.Looks.{fate_by, IsStoredSo, IsCleanedFate, Becomes};
 ghost use Rattle.checkin_paths.specs.Looks.{BecomesNothing, Looks, IsAskableBy, IsOpen};
 
+use byte_path::ObjectId;
 use crate::cleaned_file::{Visit, clean_file};
 use crate::fate::{CheckinCause, Fate};
 use crate::files::Files;
@@ -46,7 +47,7 @@ fn failed(alloc: Global, cause: CheckinCause) -> Looked
 }
 
 /// Whether a content has the name that the index has.
-fn fate_by(name: &[u8; 20], content: &[u8]) -> Fate
+fn fate_by(name: &ObjectId, content: &[u8]) -> Fate
     ensures { result ≡ fate_by name.now content.now }
 {
     let found = blob_name(content);
@@ -60,7 +61,7 @@ fn fate_by(name: &[u8; 20], content: &[u8]) -> Fate
 /// What becomes of a file with these bytes.
 fn stored_fate(
     alloc: Global,
-    name: &[u8; 20],
+    name: &ObjectId,
     storing: Storing,
     old: bool,
     bytes: Vec<u8>,
@@ -86,7 +87,7 @@ fn stored_fate(
 /// What becomes of a file that is there, by what its bytes were cleaned to.
 fn cleaned_fate(
     alloc: Global,
-    name: &[u8; 20],
+    name: &ObjectId,
     storing: Storing,
     old: bool,
     cleaned: Result<Vec<u8>, CleanFault>,

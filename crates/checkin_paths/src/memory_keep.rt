@@ -5,7 +5,7 @@ ghost use Rattle.checkin_paths.specs.Outside.{KeepsObject, KeepsIndex};
 ghost use Rattle.checkin_paths.specs.Memory.{last_index};
 
 use crate::keep::Keep;
-use byte_path::Bytes;
+use byte_path::{Bytes, ObjectId};
 use edge_kit::SendFault;
 use std::alloc::Global;
 
@@ -13,7 +13,7 @@ use std::alloc::Global;
 #[derive(Drop)]
 pub struct MemoryKeep {
     alloc: Global,
-    objects: Vec<([u8; 20], Bytes)>,
+    objects: Vec<(ObjectId, Bytes)>,
     index: Option<Vec<u8>>,
     /// How many calls come before the one that fails, if one is to fail.
     pub fail_after: Option<u32>,
@@ -37,7 +37,7 @@ impl MemoryKeep {
     }
 
     /// The objects in order, each with its name.
-    pub fn objects(&self) -> &[([u8; 20], Bytes)]
+    pub fn objects(&self) -> &[(ObjectId, Bytes)]
         ensures { (⟦<MemoryKeep as Keep>⟧.seen self.now).objects ≡ Some result.now }
     {
         &self.objects
@@ -61,7 +61,7 @@ impl Keep for MemoryKeep {
       faults = k.faults;
     } };
 
-    fn object(&mut self, name: &[u8; 20], raw: &[u8]) -> Result<(), SendFault>
+    fn object(&mut self, name: &ObjectId, raw: &[u8]) -> Result<(), SendFault>
         ensures kept { let seen = ⟦<MemoryKeep as Keep>⟧.seen in
             KeepsObject name.now raw.now (seen self.old) (seen self.new) result }
         ensures fails { CountsDown self.old.fail_after self.new.fail_after result }

@@ -1,5 +1,5 @@
 //! What is done with a path on its way back.
-use byte_path::Bytes;
+use byte_path::{Bytes, ObjectId};
 use eol_convert::Action;
 use tree_encoding::Encoding;
 
@@ -41,6 +41,6 @@ pub enum Way {
 #[derive(Drop)]
 pub struct CheckinPath {
     pub path: Bytes,
-    pub object: [u8; 20],
+    pub object: ObjectId,
     pub way: Way,
 }

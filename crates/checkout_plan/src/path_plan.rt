@@ -1,4 +1,4 @@
-use byte_path::{Bytes, Items};
+use byte_path::{Bytes, Items, ObjectId};
 use checkout_core::Start;
 use convert_plan::Conversion;
 use edge_kit::Mark;
@@ -8,7 +8,7 @@ use settings_view::Driver;
 #[derive(Drop)]
 pub struct PathPlan {
     pub path: Bytes,
-    pub object: [u8; 20],
+    pub object: ObjectId,
     pub mark: Mark,
     /// What is done to the content, on both ways. A link has none, and neither has a path that its entry, its name or its
     /// encoding closes.

@@ -5,7 +5,7 @@ ghost use Rattle.eol_convert.specs.Content.{to_tree_ends};
 ghost use Rattle.convert_plan.specs.Prepared.{with_ident, in_encoding, prepared};
 
 use crate::conversion::Conversion;
-use byte_path::Bytes;
+use byte_path::{Bytes, ObjectId};
 use eol_convert::{LineEnds, changes_ends, to_tree_ends};
 use ident_convert::{expand_ident, has_keyword};
 use std::alloc::{AllocError, Global};
@@ -15,7 +15,7 @@ use tree_encoding::{Encoding, Prepared, encode_text};
 fn with_ident(
     alloc: Global,
     ident: bool,
-    name: &[u8; 20],
+    name: &ObjectId,
     content: Vec<u8>,
 ) -> Result<Vec<u8>, AllocError>
     ensures { IfOk result (λ v. v.items ≡ with_ident ident name.now content.items) }
@@ -71,7 +71,7 @@ fn in_encoding(
 pub fn prepare(
     alloc: Global,
     conversion: &Conversion,
-    name: &[u8; 20],
+    name: &ObjectId,
     blob: Vec<u8>,
 ) -> Result<Prepared, AllocError>
     ensures { IfOk result (λ p. p ≡ prepared conversion.now name.now blob.items) }

@@ -12,6 +12,7 @@ ghost use Rattle.driver_line.specs.Lines.{HasAnswered, SessionAfter, StandsAfter
 ghost use Rattle.driver_line.specs.Lines.{list_standing};
 ghost use Rattle.driver_line.specs.Lines.{late_in, names_in, AreDelayed, IsListedTable, starts_of};
 
+use byte_path::ObjectId;
 use checkout_core::OpenCause;
 use delay_table::DelayTable;
 use edge_kit::{Leaf, Link, SendFault, Starter};
@@ -136,7 +137,7 @@ impl<S: Starter> Line<S> {
     pub fn ask<L: Leaf>(
         &mut self,
         text: &[u8],
-        name: &[u8; 20],
+        name: &ObjectId,
         content: &[u8],
         leaf: &mut L,
     ) -> Asked
@@ -165,7 +166,7 @@ impl<S: Starter> Line<S> {
     }
 
     /// Asks again for a path in the open session, and ends the session where it is over.
-    pub fn ask_again<L: Leaf>(&mut self, text: &[u8], name: &[u8; 20], leaf: &mut L) -> Asked
+    pub fn ask_again<L: Leaf>(&mut self, text: &[u8], name: &ObjectId, leaf: &mut L) -> Asked
         requires open { IsOpen self.old.session }
         requires fresh { (L.seen leaf.old).state ≡ state.Fresh }
         requires some { 1 ≤ length text.now }
@@ -230,7 +231,7 @@ impl<S: Starter> Line<S> {
 fn ask_in<K: Link, L: Leaf>(
     session: &mut Session<K>,
     text: &[u8],
-    name: &[u8; 20],
+    name: &ObjectId,
     content: &[u8],
     leaf: &mut L,
 ) -> Asked
@@ -253,7 +254,7 @@ fn ask_in<K: Link, L: Leaf>(
 fn ask_again_in<K: Link, L: Leaf>(
     session: &mut Session<K>,
     text: &[u8],
-    name: &[u8; 20],
+    name: &ObjectId,
     leaf: &mut L,
 ) -> Asked
     requires live { session.old.standing ≡ Standing.Live }

@@ -4,6 +4,7 @@
 //!   bytes, and so many NULs behind them, under this name: `content` and it, or the fault. With the cells `name` and
 //!   `has` the repository has the object, no or failing: `has` is `nothing` or `failure`.
 //! - `content`: the cell `bytes`. The name of this content, its spelling and its path, parted by line feeds.
+use byte_path::ObjectId;
 use case_kit::{Cell, filled, number_of, shown, unknown};
 use edge_kit::{MemoryRepo, Repo, RepoFail};
 use object_dir::{ObjectFault, blob_name, object_path, read_blob, spell_blob};
@@ -19,7 +20,7 @@ fn told(alloc: Global, answer: Result<Vec<u8>, ObjectFault>) -> Result<Vec<u8>, 
 }
 
 /// What the object with this name gives in a repository.
-fn object_in(alloc: Global, repo: &mut MemoryRepo, name: &[u8; 20]) -> Result<Vec<u8>, AllocError> {
+fn object_in(alloc: Global, repo: &mut MemoryRepo, name: &ObjectId) -> Result<Vec<u8>, AllocError> {
     let mut blob = repo.blob(name)?;
     let answer = read_blob(alloc, &mut blob, name);
     repo.take_back(blob);
@@ -29,8 +30,8 @@ fn object_in(alloc: Global, repo: &mut MemoryRepo, name: &[u8; 20]) -> Result<Ve
 /// What the object with this name gives in a repository with these objects and failures.
 fn read_named(
     alloc: Global,
-    name: &[u8; 20],
-    objects: Vec<([u8; 20], Vec<u8>)>,
+    name: &ObjectId,
+    objects: Vec<(ObjectId, Vec<u8>)>,
     fails: Vec<RepoFail>,
 ) -> Result<Vec<u8>, AllocError> {
     let mut repo = MemoryRepo::new(alloc, None, None, None, objects, fails);
@@ -38,8 +39,8 @@ fn read_named(
 }
 
 /// The name that a cell spells.
-pub fn name_of(cell: &Cell) -> Result<[u8; 20], Fail> {
-    match <[u8; 20]>::try_from(cell.value.as_slice()) {
+pub fn name_of(cell: &Cell) -> Result<ObjectId, Fail> {
+    match <ObjectId>::try_from(cell.value.as_slice()) {
         Ok(name) => Ok(name),
         Err(_) => Err(unknown(&cell.value)),
     }
@@ -48,7 +49,7 @@ pub fn name_of(cell: &Cell) -> Result<[u8; 20], Fail> {
 /// What the object with this name gives that is stored as these bytes and so many NULs.
 fn read_stored(
     alloc: Global,
-    name: &[u8; 20],
+    name: &ObjectId,
     stored: &[u8],
     count: usize,
 ) -> Result<Vec<u8>, AllocError> {
@@ -58,7 +59,7 @@ fn read_stored(
 }
 
 /// What an object with this name gives that isn't there or fails.
-fn read_unstored(alloc: Global, name: &[u8; 20], is_failing: bool) -> Result<Vec<u8>, AllocError> {
+fn read_unstored(alloc: Global, name: &ObjectId, is_failing: bool) -> Result<Vec<u8>, AllocError> {
     let mut fails = Vec::new(alloc);
     if is_failing {
         fails.push(RepoFail::Object(*name))?;

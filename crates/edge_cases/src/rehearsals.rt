@@ -3,6 +3,7 @@
 //! The kind `rehearsal` has the cells `seed`, `paths`, which is a number, and `tells`: `paths` lists the paths of the
 //! index, `contents` each path and behind a line feed its content, `drivers` each driver's command, how many bytes a
 //! read gives, and what its session writes.
+use byte_path::ObjectId;
 use case_kit::{Cell, number_of, push_all, shown, unknown};
 use edge_kit::{DriverScript, MemoryRepo, Repo, SessionScript};
 use git_index::{Entry, read_index};
@@ -15,7 +16,7 @@ use std::test::Fail;
 fn content_of(
     alloc: Global,
     repo: &mut MemoryRepo,
-    name: &[u8; 20],
+    name: &ObjectId,
 ) -> Result<Vec<u8>, AllocError> {
     let mut blob = repo.blob(name)?;
     let content = read_blob(alloc, &mut blob, name);

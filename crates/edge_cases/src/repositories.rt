@@ -3,6 +3,7 @@
 //! The kind `repository` has the cells `fails`, `reads` and `limit`. A part is `index`, `config`, `attributes`,
 //! `base`, or a digit, which is the object whose name is this number twenty times; `fails` may be `-`. The repository
 //! has an index, a configuration, attributes of the user, and three objects, of which two have one name.
+use byte_path::ObjectId;
 use case_kit::{Cell, number_of, shown, unknown};
 use edge_kit::{Blob, MemoryRepo, Repo, RepoFail, TakeFault};
 use std::alloc::{AllocError, Global};
@@ -11,7 +12,7 @@ use std::test::Fail;
 /// Adds an object whose name is this byte twenty times.
 fn push_object(
     alloc: Global,
-    objects: &mut Vec<([u8; 20], Vec<u8>)>,
+    objects: &mut Vec<(ObjectId, Vec<u8>)>,
     byte: u8,
     stored: &[u8],
 ) -> Result<(), AllocError> {
@@ -21,7 +22,7 @@ fn push_object(
 }
 
 /// Adds the three objects.
-fn push_objects(alloc: Global, objects: &mut Vec<([u8; 20], Vec<u8>)>) -> Result<(), AllocError> {
+fn push_objects(alloc: Global, objects: &mut Vec<(ObjectId, Vec<u8>)>) -> Result<(), AllocError> {
     push_object(alloc, objects, 7, b"first")?;
     push_object(alloc, objects, 7, b"second")?;
     push_object(alloc, objects, 9, b"third")
@@ -30,7 +31,7 @@ fn push_objects(alloc: Global, objects: &mut Vec<([u8; 20], Vec<u8>)>) -> Result
 /// A repository with these objects, in which this fails.
 fn repo_of(
     alloc: Global,
-    objects: Vec<([u8; 20], Vec<u8>)>,
+    objects: Vec<(ObjectId, Vec<u8>)>,
     fail: Option<RepoFail>,
 ) -> Result<MemoryRepo, AllocError> {
     let mut fails = Vec::new(alloc);
@@ -72,7 +73,7 @@ fn part_of(word: &[u8]) -> Result<Option<RepoFail>, Fail> {
 /// Reads an object.
 fn read_object<R: Repo>(
     repo: &mut R,
-    name: &[u8; 20],
+    name: &ObjectId,
     limit: u64,
 ) -> Result<Option<Vec<u8>>, TakeFault> {
     let mut blob = repo.blob(name)?;

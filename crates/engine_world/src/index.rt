@@ -1,4 +1,5 @@
 //! The index of a case, as git spells it (gitformat-index(5)).
+use byte_path::ObjectId;
 use crate::objects::{HI, NO_ENTRIES, ONE_ENTRY, name_of, named_by};
 use case_kit::{Words, found, given, meant, number_of, parted, unknown};
 use std::alloc::{AllocError, Global};
@@ -84,7 +85,7 @@ fn kind_of(letter: u8) -> Result<Kind, Fail> {
 }
 
 /// Appends the fixed part of an entry up to its flags.
-fn push_head(index: &mut Vec<u8>, mode: u32, name: &[u8; 20]) -> Result<(), AllocError> {
+fn push_head(index: &mut Vec<u8>, mode: u32, name: &ObjectId) -> Result<(), AllocError> {
     index.extend_from_slice(&[0; 24])?;
     index.extend_from_slice(&mode.to_be_bytes())?;
     index.extend_from_slice(&[0; 12])?;
@@ -96,7 +97,7 @@ fn push_head(index: &mut Vec<u8>, mode: u32, name: &[u8; 20]) -> Result<(), Allo
 fn push_entry(
     index: &mut Vec<u8>,
     kind: Kind,
-    name: &[u8; 20],
+    name: &ObjectId,
     path: &[u8],
 ) -> Result<(), AllocError> {
     let len = path.len() % 0x1000;
@@ -117,7 +118,7 @@ fn push_entry(
     Ok(())
 }
 
-const HASHES: Words<[u8; 20]> = &[
+const HASHES: Words<ObjectId> = &[
     (b"one", ONE_ENTRY),
     (b"none", NO_ENTRIES),
     (b"other", [1; 20]),
@@ -158,7 +159,7 @@ pub struct IndexCase {
     /// How many entries there are.
     pub count: u32,
     tail: Vec<u8>,
-    hash: [u8; 20],
+    hash: ObjectId,
 }
 
 impl IndexCase {
@@ -189,7 +190,7 @@ impl IndexCase {
     }
 
     /// Adds an entry of this kind with the object of this name.
-    pub fn add(&mut self, kind: u8, name: &[u8; 20], path: &[u8]) -> Result<(), Fail> {
+    pub fn add(&mut self, kind: u8, name: &ObjectId, path: &[u8]) -> Result<(), Fail> {
         let kind = kind_of(kind)?;
         if kind.more != 0 {
             self.version = 3;
@@ -224,7 +225,7 @@ impl IndexCase {
         &mut self,
         alloc: Global,
         mode: u32,
-        object: &[u8; 20],
+        object: &ObjectId,
         count: u32,
     ) -> Result<(), AllocError> {
         for _ in 0..count {
@@ -246,7 +247,7 @@ impl IndexCase {
         &mut self,
         alloc: Global,
         mode: u32,
-        object: &[u8; 20],
+        object: &ObjectId,
         digits: &[u8],
     ) -> Result<(), Fail> {
         given(self.add_many(alloc, mode, object, number_of(digits)?))

@@ -1,4 +1,5 @@
 //! The repository of a case but for its index.
+use byte_path::ObjectId;
 use crate::objects::{HI, OBJECTS, named_by};
 use case_kit::{Words, given, meant, number_of, parted, unknown};
 use edge_kit::{MemoryRepo, RepoFail};
@@ -68,17 +69,17 @@ fn copied(alloc: Global, file: &Option<Vec<u8>>) -> Result<Option<Vec<u8>>, Allo
 /// The repository of a case but for its index.
 #[derive(Drop)]
 pub struct RepoCase {
-    object: [u8; 20],
+    object: ObjectId,
     stored: Vec<u8>,
     /// The names of the other objects, and what is stored.
-    objects: Vec<([u8; 20], Vec<u8>)>,
+    objects: Vec<(ObjectId, Vec<u8>)>,
     config: Option<Vec<u8>>,
     info: Option<Vec<u8>>,
     base: Option<Vec<u8>>,
     fails: Vec<RepoFail>,
     /// The blob that can't be made, and the one that can't be read.
-    pub unmade: Option<[u8; 20]>,
-    pub unread: Option<[u8; 20]>,
+    pub unmade: Option<ObjectId>,
+    pub unread: Option<ObjectId>,
 }
 
 impl RepoCase {
@@ -98,14 +99,14 @@ impl RepoCase {
     }
 
     /// Adds an object with this content, and gives its name.
-    pub fn add(&mut self, alloc: Global, content: &[u8]) -> Result<[u8; 20], AllocError> {
+    pub fn add(&mut self, alloc: Global, content: &[u8]) -> Result<ObjectId, AllocError> {
         let name = blob_name(content);
         self.objects.push((name, spell_blob(alloc, content)?))?;
         Ok(name)
     }
 
     /// The names of all objects, and what is stored. The first of two with one name counts.
-    fn all_objects(&self, alloc: Global) -> Result<Vec<([u8; 20], Vec<u8>)>, AllocError> {
+    fn all_objects(&self, alloc: Global) -> Result<Vec<(ObjectId, Vec<u8>)>, AllocError> {
         let mut objects = Vec::new(alloc);
         objects.push((self.object, Vec::from_slice(alloc, &self.stored)?))?;
         for (name, stored) in OBJECTS {

@@ -14,6 +14,7 @@ ghost use Rattle.filter_proto.specs.Complete.{IsComplete};
 ghost use Rattle.filter_proto.specs.Steps.{FlushIs, StepIs, StepBegins};
 ghost use Rattle.filter_proto.specs.declared.asked.Step.TheVariants as step;
 
+use byte_path::ObjectId;
 use crate::asked::{Asked, Reading, Step};
 use crate::laws::complete;
 use crate::sent_parts::SmudgeRequest;
@@ -240,7 +241,7 @@ impl<K: Link> Session<K> {
     pub fn ask<L: Leaf>(
         &mut self,
         path: &[u8],
-        name: &[u8; 20],
+        name: &ObjectId,
         content: &[u8],
         leaf: &mut L,
     ) -> Asked
@@ -276,7 +277,7 @@ impl<K: Link> Session<K> {
 
     /// Asks again for a path that was delayed and then listed, with an empty content and without `can-delay=1`.
     #[tactic(auto, unfolding(filter_words::specs::Requests::second_text))]
-    pub fn ask_again<L: Leaf>(&mut self, path: &[u8], name: &[u8; 20], leaf: &mut L) -> Asked
+    pub fn ask_again<L: Leaf>(&mut self, path: &[u8], name: &ObjectId, leaf: &mut L) -> Asked
         requires live { self.old.standing ≡ Standing.Live }
         requires smudge { self.old.caps.smudge ≡ true }
         requires fresh { (L.seen leaf.old).state ≡ leaf_state.Fresh }

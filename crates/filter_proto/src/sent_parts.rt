@@ -5,6 +5,7 @@ ghost use Rattle.pkt_line.specs.Spelling.{spelling};
 ghost use Rattle.filter_words.specs.Requests.{content_text, first_text, clean_text, list_text};
 ghost use Rattle.filter_proto.specs.Sending.{SendsAll};
 
+use byte_path::ObjectId;
 use edge_kit::{Link, SendFault};
 use filter_words::{push_clean_keys, push_list, push_smudge_keys, request_in_parts};
 use pkt_line::{push_flush, push_payload, spells};
@@ -17,7 +18,7 @@ const MOST_PAYLOAD: usize = 65_516;
 #[derive(Clone, Copy)]
 pub(crate) struct SmudgeRequest<'a> {
     pub path: &'a [u8],
-    pub name: &'a [u8; 20],
+    pub name: &'a ObjectId,
     pub can_delay: bool,
     pub content: &'a [u8],
 }

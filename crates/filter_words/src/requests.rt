@@ -6,6 +6,7 @@ ghost use Rattle.filter_words.specs.Requests.{smudge_keys, smudge_packets, hello
 ghost use Rattle.filter_words.specs.Requests.{keys_text, first_text};
 ghost use Rattle.filter_words.specs.Requests.{clean_keys, clean_packets, clean_keys_text, clean_text};
 
+use byte_path::ObjectId;
 use pkt_line::{push_content, push_flush, push_line};
 use std::alloc::{AllocError, Global};
 
@@ -56,7 +57,7 @@ pub fn push_smudge(
     alloc: Global,
     out: &mut Vec<u8>,
     path: &[u8],
-    name: &[u8; 20],
+    name: &ObjectId,
     can_delay: bool,
     content: &[u8],
 ) -> Result<(), AllocError>
@@ -78,7 +79,7 @@ pub fn push_smudge_keys(
     alloc: Global,
     out: &mut Vec<u8>,
     path: &[u8],
-    name: &[u8; 20],
+    name: &ObjectId,
     can_delay: bool,
 ) -> Result<(), AllocError>
     requires some { 1 ≤ length path.now }
@@ -170,7 +171,7 @@ fn push_smudge_packets(
     alloc: Global,
     out: &mut Vec<u8>,
     path: &[u8],
-    name: &[u8; 20],
+    name: &ObjectId,
     can_delay: bool,
     content: &[u8],
 ) -> Result<(), AllocError>
@@ -189,7 +190,7 @@ fn push_key_packets(
     alloc: Global,
     out: &mut Vec<u8>,
     path: &[u8],
-    name: &[u8; 20],
+    name: &ObjectId,
     can_delay: bool,
 ) -> Result<(), AllocError>
     requires { length path.now ≤ 4096 }
@@ -253,7 +254,7 @@ fn push_pathname(alloc: Global, out: &mut Vec<u8>, path: &[u8]) -> Result<(), Al
     push_line(alloc, out, text.as_slice())
 }
 
-fn push_blob(alloc: Global, out: &mut Vec<u8>, name: &[u8; 20]) -> Result<(), AllocError>
+fn push_blob(alloc: Global, out: &mut Vec<u8>, name: &ObjectId) -> Result<(), AllocError>
     ensures ok { OnOk result
         (out.new.items ≡ out.old.items ++ spelling (line (codes "blob=" ++ encode_lower name.now))) }
     ensures err { OnErr result (out.new.items ≡ out.old.items) }

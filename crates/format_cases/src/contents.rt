@@ -1,4 +1,5 @@
 //! Keywords and encodings.
+use byte_path::ObjectId;
 use crate::states::{encoding_named, state_of};
 use case_kit::{noted, shown};
 use ident_convert::{expand_ident, has_keyword};
@@ -7,7 +8,7 @@ use std::test::Fail;
 use tree_encoding::{Encoding, encode, encode_text, encoding_of};
 
 /// `001a2b3c4d5e6f78899aabbccddeeff001122334` in hex.
-const NAME: [u8; 20] =
+const NAME: ObjectId =
     *b"\x00\x1a\x2b\x3c\x4d\x5e\x6f\x78\x89\x9a\xab\xbc\xcd\xde\xef\xf0\x01\x12\x23\x34";
 
 /// What stands before a content that has to stay.

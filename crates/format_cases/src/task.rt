@@ -10,7 +10,7 @@ ghost use Rattle.tree_encoding.specs.Named.{encoding_of};
 ghost use Rattle.format_cases.specs.Task.{ends_named, IsKind, read_bytes, is_space, IsTask, converted};
 
 use attr_line::AttrState;
-use byte_path::{ByteKind, Bytes, len_to};
+use byte_path::{ByteKind, Bytes, ObjectId, len_to};
 use case_kit::unknown;
 use eol_convert::{LineEnds, to_tree_ends};
 use hex::FromHex;
@@ -25,7 +25,7 @@ pub enum Kind {
     /// `crlf` and `auto-crlf`.
     Ends(LineEnds),
     /// `ident`, with the name of the blob.
-    Ident([u8; 20]),
+    Ident(ObjectId),
     /// The name of an encoding.
     Encoded(Encoding),
 }
@@ -51,10 +51,10 @@ fn ends_named(kind: &[u8]) -> Option<LineEnds>
 }
 
 /// The name of a blob, in hex.
-fn read_name(word: &[u8]) -> Result<[u8; 20], Fail>
+fn read_name(word: &[u8]) -> Result<ObjectId, Fail>
     ensures { IfOk result (λ name. decode_of word.now ≡ Ok name) }
 {
-    Ok(<[u8; 20] as FromHex>::from_hex(word)?)
+    Ok(<ObjectId as FromHex>::from_hex(word)?)
 }
 
 /// The encoding with this name.

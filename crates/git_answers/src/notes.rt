@@ -1,7 +1,7 @@
 //! What is to be said of a repository beside the report, and where its drivers run.
 use crate::finding::FoundRepository;
 use crate::git::Git;
-use byte_path::{Bytes, quote_path};
+use byte_path::{Bytes, ObjectId, quote_path};
 use edge_adapters::DriverPlace;
 use std::alloc::{AllocError, Global};
 use std::env::var;
@@ -37,12 +37,12 @@ fn add_unmerged(
     Ok(())
 }
 
-fn hex_of(alloc: Global, name: &[u8; 20]) -> Result<String, AllocError> {
+fn hex_of(alloc: Global, name: &ObjectId) -> Result<String, AllocError> {
     hex::encode(alloc, name.as_slice())
 }
 
 /// The names, each once and in order.
-fn each_once(mut names: Vec<[u8; 20]>) -> Vec<[u8; 20]> {
+fn each_once(mut names: Vec<ObjectId>) -> Vec<ObjectId> {
     names.sort_unstable();
     names.dedup();
     names
@@ -115,7 +115,7 @@ fn lack_of(
     git: &Git,
     remote: &[u8],
     tree: Option<&str>,
-    absent: &[[u8; 20]],
+    absent: &[ObjectId],
 ) -> Result<String, AllocError> {
     let met = each_once(absent.to_vec(git.alloc)?).len();
     let count = lacked(git, tree)?.max(met);
@@ -126,7 +126,7 @@ fn lack_of(
 
 fn add_replaced(
     git: &Git,
-    returned: &[([u8; 20], u64)],
+    returned: &[(ObjectId, u64)],
     notes: &mut Vec<String>,
 ) -> Result<(), AllocError> {
     let listed = said(
@@ -173,9 +173,9 @@ pub struct Met<'a> {
     /// The attribute files of its index that have a second stage.
     pub unmerged: &'a [Bytes],
     /// The names of objects that aren't there.
-    pub absent: &'a [[u8; 20]],
+    pub absent: &'a [ObjectId],
     /// The objects that were given back, if some may be replaced.
-    pub returned: Option<&'a [([u8; 20], u64)]>,
+    pub returned: Option<&'a [(ObjectId, u64)]>,
 }
 
 /// What is to be said of a repository, of which this was met: of its own index or of this tree, and of the objects that

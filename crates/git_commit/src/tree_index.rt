@@ -2,7 +2,7 @@
 use crate::object_lack::ObjectLack;
 use crate::stored_objects::StoredObjects;
 use crate::tree_objects::TreeObjects;
-use byte_path::{Bytes, PathFault, quote_path};
+use byte_path::{Bytes, ObjectId, PathFault, quote_path};
 use edge_kit::TakeFault;
 use git_index::spell_entries;
 use git_trees::{
@@ -20,7 +20,7 @@ const BOUNDS: WalkBounds = WalkBounds {
 /// The tree at which a walk stopped, and why it did.
 #[derive(Clone, Copy)]
 struct StoppedTree<'a> {
-    name: [u8; 20],
+    name: ObjectId,
     fault: &'a WalkFault,
     lack: ObjectLack,
 }
@@ -87,7 +87,7 @@ impl StoppedTree<'_> {
 fn root_content<S: StoredObjects>(
     trees: &mut TreeObjects<'_, S>,
     alloc: Global,
-    root: &[u8; 20],
+    root: &ObjectId,
 ) -> Result<Vec<u8>, WalkFault> {
     match trees.tree(root, BOUNDS.bytes) {
         Ok(Some(content)) => Ok(content),
@@ -101,7 +101,7 @@ fn root_content<S: StoredObjects>(
 fn walk<S: StoredObjects>(
     trees: &mut TreeObjects<'_, S>,
     alloc: Global,
-    root: &[u8; 20],
+    root: &ObjectId,
 ) -> Result<Vec<u8>, WalkFault> {
     let content = root_content(trees, alloc, root)?;
     let leaves = read_leaves(trees, alloc, BOUNDS, content.as_slice())?;
@@ -148,7 +148,7 @@ fn without_index(alloc: Global, stopped: StoppedTree<'_>) -> Result<TreeIndex, A
 pub fn index_of<S: StoredObjects>(
     objects: &S,
     alloc: Global,
-    root: &[u8; 20],
+    root: &ObjectId,
 ) -> Result<TreeIndex, AllocError> {
     let mut trees = TreeObjects::new(objects, alloc);
     match walk(&mut trees, alloc, root) {

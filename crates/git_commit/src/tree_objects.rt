@@ -4,7 +4,7 @@ ghost use Rattle.edge_kit.specs.Told.{Untold};
 
 use crate::object_lack::ObjectLack;
 use crate::stored_objects::StoredObjects;
-use byte_path::read_decimal;
+use byte_path::{ObjectId, read_decimal};
 use edge_kit::TakeFault;
 use git_trees::TreeSource;
 use memchr::memchr;
@@ -29,7 +29,7 @@ fn cut(bytes: &[u8], at: u8) -> Option<(&[u8], &[u8])> {
 }
 
 /// The content of a stored object of this kind and name.
-fn checked<'a>(stored: &'a [u8], kind: &[u8], name: &[u8; 20]) -> Result<&'a [u8], ObjectLack> {
+fn checked<'a>(stored: &'a [u8], kind: &[u8], name: &ObjectId) -> Result<&'a [u8], ObjectLack> {
     let (head, content) = cut(stored, 0).ok_or(ObjectLack::Header)?;
     let (told, size) = cut(head, b' ').ok_or(ObjectLack::Header)?;
     if told != kind {
@@ -47,7 +47,7 @@ fn checked<'a>(stored: &'a [u8], kind: &[u8], name: &[u8; 20]) -> Result<&'a [u8
 /// The stored form of an object.
 fn stored_of<S: StoredObjects>(
     objects: &S,
-    name: &[u8; 20],
+    name: &ObjectId,
     limit: u64,
 ) -> Result<Vec<u8>, ObjectLack> {
     match objects.stored(name, limit.saturating_add(HEAD)) {
@@ -60,7 +60,7 @@ fn stored_of<S: StoredObjects>(
 }
 
 /// The name that a commit's first line gives its tree (gitformat "commit").
-fn tree_in(commit: &[u8]) -> Option<[u8; 20]> {
+fn tree_in(commit: &[u8]) -> Option<ObjectId> {
     let (line, _) = cut(commit, b'\n')?;
     let mut name = [0u8; 20];
     match hex::decode_to_slice(line.strip_prefix(b"tree ")?, name.as_mut_slice()) {
@@ -70,7 +70,7 @@ fn tree_in(commit: &[u8]) -> Option<[u8; 20]> {
 }
 
 /// The name of the tree of a commit, or of the tree itself. `None` if it is neither, or isn't given.
-pub fn root_tree<S: StoredObjects>(objects: &S, name: &[u8; 20]) -> Option<[u8; 20]> {
+pub fn root_tree<S: StoredObjects>(objects: &S, name: &ObjectId) -> Option<ObjectId> {
     let stored = stored_of(objects, name, MOST).ok()?;
     if stored.starts_with(b"tree ") {
         return Some(*name);
@@ -84,7 +84,7 @@ pub struct TreeObjects<'a, S> {
     objects: &'a S,
     alloc: Global,
     /// The name of the tree that was asked for last.
-    pub last: [u8; 20],
+    pub last: ObjectId,
     /// Why that one wasn't taken, if taking it failed.
     pub lack: ObjectLack,
     taken: u32,
@@ -109,7 +109,7 @@ impl<'a, S> TreeObjects<'a, S> {
 fn tree_content<S: StoredObjects>(
     objects: &S,
     alloc: Global,
-    name: &[u8; 20],
+    name: &ObjectId,
     limit: u64,
 ) -> Result<Vec<u8>, ObjectLack>
     ensures { IfOk result (λ v. length v.items ≤ limit) }
@@ -127,7 +127,7 @@ impl<S: StoredObjects> TreeSource for TreeObjects<'_, S> {
 
     ghost faults = { λ s. s.faults };
 
-    fn tree(&mut self, name: &[u8; 20], limit: u64) -> Result<Option<Vec<u8>>, TakeFault> {
+    fn tree(&mut self, name: &ObjectId, limit: u64) -> Result<Option<Vec<u8>>, TakeFault> {
         self.last = *name;
         self.taken = self.taken.saturating_add(1);
         let content = if self.taken > MOST_TREES {

@@ -3,7 +3,7 @@ ghost use Rattle.std.specs.Prelude.{◌≡◌, ◌↔◌, ◌+◌, ◌++◌, ◌
 ghost use Rattle.edge_kit.specs.Told.{Untold, Takes};
 ghost use Rattle.git_edge.specs.declared.cat_file.Head.TheVariants.{Missing};
 
-use byte_path::read_decimal;
+use byte_path::{ObjectId, read_decimal};
 use edge_adapters::write_whole;
 use edge_kit::TakeFault;
 use git_answers::{Git, fault_of};
@@ -20,7 +20,7 @@ pub struct CatFile {
     input: PipeWriter,
     output: PipeReader,
     // the object that it was asked for ahead
-    ahead: Option<[u8; 20]>,
+    ahead: Option<ObjectId>,
 }
 
 /// The bytes of a first read: a head and, of most source files, all of the content.
@@ -155,7 +155,7 @@ impl CatFile {
     }
 
     /// Asks for an object.
-    fn ask(&mut self, name: &[u8; 20]) -> Result<(), TakeFault> {
+    fn ask(&mut self, name: &ObjectId) -> Result<(), TakeFault> {
         let mut line = [b'\n'; 41];
         let (digits, _) = line.split_at_mut(40);
         let _ = hex::encode_to_slice(name.as_slice(), digits);
@@ -168,7 +168,7 @@ impl CatFile {
 
     /// Asks for the object that will probably be taken next, if there is one, once the last take went well. The
     /// child gets it ready meanwhile, as far as the pipe holds it. Returns whether the child is still of use.
-    pub fn ask_ahead(&mut self, next: Option<[u8; 20]>) -> bool {
+    pub fn ask_ahead(&mut self, next: Option<ObjectId>) -> bool {
         let Some(name) = next else {
             return true;
         };
@@ -181,7 +181,7 @@ impl CatFile {
     pub fn take(
         &mut self,
         git: &Git,
-        name: &[u8; 20],
+        name: &ObjectId,
         limit: u64,
     ) -> Result<Option<Vec<u8>>, TakeFault>
         ensures { Takes Untold limit result }
@@ -196,7 +196,7 @@ impl CatFile {
     fn answer(
         &mut self,
         git: &Git,
-        name: &[u8; 20],
+        name: &ObjectId,
         into: &mut [u8],
     ) -> Result<(usize, usize), TakeFault>
         ensures { IfOk result (λ at. (at.1 < at.0) × (at.0 ≤ length into.new)) }
@@ -216,7 +216,7 @@ impl CatFile {
     }
 
     /// Whether the child was asked for this object ahead. If it was asked for another one, that answer is dropped.
-    fn was_asked(&mut self, git: &Git, name: &[u8; 20]) -> Result<bool, TakeFault> {
+    fn was_asked(&mut self, git: &Git, name: &ObjectId) -> Result<bool, TakeFault> {
         match self.ahead.take() {
             None => Ok(false),
             Some(asked) if asked == *name => Ok(true),
@@ -231,7 +231,7 @@ impl CatFile {
 
     /// Reads the answer for an object that nobody wants. Returns whether the child is still of use, as after a
     /// short one.
-    fn drop_answer(&mut self, alloc: Global, name: &[u8; 20]) -> bool {
+    fn drop_answer(&mut self, alloc: Global, name: &ObjectId) -> bool {
         let mut first = [0u8; FIRST];
         let Ok((had, end)) = read_line(&mut self.output, first.as_mut_slice()) else {
             return false;
@@ -244,7 +244,7 @@ impl CatFile {
     fn receive(
         &mut self,
         alloc: Global,
-        name: &[u8; 20],
+        name: &ObjectId,
         read: &[u8],
         end: usize,
         limit: u64,

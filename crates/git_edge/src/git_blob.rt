@@ -1,6 +1,7 @@
 ghost use Rattle.std.specs.Prelude.{◌≡◌};
 ghost use Rattle.edge_kit.specs.Told.{Untold};
 
+use byte_path::ObjectId;
 use crate::object_pool::ObjectPool;
 use edge_kit::{Blob, TakeFault};
 use std::alloc::Global;
@@ -10,7 +11,7 @@ use std::sync::Arc;
 #[derive(Drop)]
 pub struct GitBlob {
     pool: Arc<ObjectPool, Global>,
-    pub name: [u8; 20],
+    pub name: ObjectId,
     // its place among those that were lent, if it is known
     place: Option<usize>,
     pub faults: u64,
@@ -20,7 +21,7 @@ pub struct GitBlob {
 
 impl GitBlob {
     /// The object with this name, which was lent in this place, and of which nothing was read.
-    pub fn new(pool: Arc<ObjectPool, Global>, name: [u8; 20], place: Option<usize>) -> GitBlob
+    pub fn new(pool: Arc<ObjectPool, Global>, name: ObjectId, place: Option<usize>) -> GitBlob
         ensures name { result.name ≡ name }
         ensures unfailed { result.faults ≡ 0 }
     {

@@ -13,7 +13,7 @@ use crate::scratch::scratch_fault;
 use crate::unmerged::unmerged_in;
 use crate::unread_file::unread_file;
 use crate::wanted_tree::{IndexLack, WantedTree};
-use byte_path::Bytes;
+use byte_path::{Bytes, ObjectId};
 use edge_adapters::{DriverPlace, read_whole};
 use edge_kit::{Repo, TakeFault};
 use file_stat::Sharing;
@@ -48,9 +48,9 @@ pub struct GitRepo {
     pool: Arc<ObjectPool, Global>,
     faults: u64,
     out: usize,
-    returned: Vec<([u8; 20], u64)>,
+    returned: Vec<(ObjectId, u64)>,
     // the names of those among them that aren't there
-    absent: Vec<[u8; 20]>,
+    absent: Vec<ObjectId>,
     // why attribute files are left out
     left_out: Vec<String>,
     // there is room for each blob that is out
@@ -165,7 +165,7 @@ impl GitRepo {
     }
 
     /// The name of the tree that is wanted in place of its own index, if one is.
-    pub fn wanted_tree(&self) -> Option<[u8; 20]> {
+    pub fn wanted_tree(&self) -> Option<ObjectId> {
         match &self.tree {
             Some(tree) => tree.object(),
             None => None,
@@ -350,7 +350,7 @@ impl Repo for GitRepo {
         self.counted(taken)
     }
 
-    fn blob(&mut self, name: &[u8; 20]) -> Result<GitBlob, AllocError> {
+    fn blob(&mut self, name: &ObjectId) -> Result<GitBlob, AllocError> {
         let pool = Arc::try_clone(&self.pool)?;
         self.absent.reserve(self.out.saturating_add(1))?;
         self.returned.reserve(self.out + 1)?;

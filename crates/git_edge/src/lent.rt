@@ -1,4 +1,5 @@
 //! The order in which objects will probably be taken.
+use byte_path::ObjectId;
 use std::alloc::{AllocError, Global};
 use std::sync::Mutex;
 use std::sync::atomic::{AtomicBool, Ordering};
@@ -7,7 +8,7 @@ use std::sync::atomic::{AtomicBool, Ordering};
 /// that reads alone takes them. Each of several threads takes some of them, so that none knows its next one.
 #[derive(Drop)]
 pub struct Lent {
-    names: Mutex<Vec<[u8; 20]>>,
+    names: Mutex<Vec<ObjectId>>,
     is_alone: AtomicBool,
 }
 
@@ -21,7 +22,7 @@ impl Lent {
     }
 
     /// Adds an object, and returns its place, or `None` while another thread is at the list.
-    pub fn add(&self, name: &[u8; 20]) -> Result<Option<usize>, AllocError> {
+    pub fn add(&self, name: &ObjectId) -> Result<Option<usize>, AllocError> {
         let Some(mut names) = self.names.try_lock() else {
             return Ok(None);
         };
@@ -36,7 +37,7 @@ impl Lent {
     }
 
     /// The object that will probably be taken after the one in this place, if one thread reads alone.
-    pub fn next(&self, place: Option<usize>) -> Option<[u8; 20]> {
+    pub fn next(&self, place: Option<usize>) -> Option<ObjectId> {
         if !self.is_alone.load(Ordering::SeqCst) {
             return None;
         }

@@ -1,6 +1,7 @@
 //! Readers of objects, shared by the threads that read them.
 ghost use Rattle.edge_kit.specs.Told.{Untold, Takes};
 
+use byte_path::ObjectId;
 use crate::lent::Lent;
 use crate::object_reader::{ObjectReader, Store, Wanted};
 use crate::scratch::Scratch;
@@ -64,7 +65,7 @@ impl ObjectPool {
     }
 
     /// Notes that an object will be taken after those before it, and returns its place among them, if it is known.
-    pub fn lend(&self, name: &[u8; 20]) -> Result<Option<usize>, AllocError> {
+    pub fn lend(&self, name: &ObjectId) -> Result<Option<usize>, AllocError> {
         self.lent.add(name)
     }
 
@@ -75,7 +76,7 @@ impl ObjectPool {
     /// each other.
     pub fn take(
         &self,
-        name: &[u8; 20],
+        name: &ObjectId,
         place: Option<usize>,
         limit: u64,
     ) -> Result<Option<Vec<u8>>, TakeFault>
@@ -114,7 +115,7 @@ impl ObjectPool {
 }
 
 impl StoredObjects for ObjectPool {
-    fn stored(&self, name: &[u8; 20], limit: u64) -> Result<Option<Vec<u8>>, TakeFault> {
+    fn stored(&self, name: &ObjectId, limit: u64) -> Result<Option<Vec<u8>>, TakeFault> {
         self.take(name, None, limit)
     }
 }

@@ -2,6 +2,7 @@
 ghost use Rattle.std.specs.Prelude.{◌≢◌, ◌≤◌, IfOk, IfSome, None, length};
 ghost use Rattle.edge_kit.specs.Told.{Untold, Takes};
 
+use byte_path::ObjectId;
 use crate::cat_file::CatFile;
 use edge_kit::TakeFault;
 use git_answers::{Git, fault_of};
@@ -28,8 +29,8 @@ pub struct ObjectReader {
 /// An object to take, and the one that will probably be taken after it.
 #[derive(Clone, Copy)]
 pub struct Wanted {
-    pub name: [u8; 20],
-    pub next: Option<[u8; 20]>,
+    pub name: ObjectId,
+    pub next: Option<ObjectId>,
     pub limit: u64,
 }
 

@@ -1,6 +1,7 @@
 //! The tree that is wanted in place of the index.
 ghost use Rattle.edge_kit.specs.Told.{Untold, Takes};
 
+use byte_path::ObjectId;
 use crate::index_file::index_by_git;
 use crate::object_pool::ObjectPool;
 use edge_kit::TakeFault;
@@ -26,7 +27,7 @@ pub struct IndexLack {
     pub bad: Option<String>,
 }
 
-fn name_in(digits: &str) -> Option<[u8; 20]> {
+fn name_in(digits: &str) -> Option<ObjectId> {
     let mut name = [0u8; 20];
     match hex::decode_to_slice(digits.as_bytes(), name.as_mut_slice()) {
         Ok(()) => Some(name),
@@ -65,7 +66,7 @@ impl WantedTree {
     }
 
     /// Its name.
-    pub fn object(&self) -> Option<[u8; 20]> {
+    pub fn object(&self) -> Option<ObjectId> {
         name_in(self.name.as_str())
     }
 

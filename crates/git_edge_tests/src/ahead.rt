@@ -1,4 +1,5 @@
 //! What a child gives that is asked for objects ahead.
+use byte_path::ObjectId;
 use crate::place::{folder_after, has_git, open, runs};
 use crate::table::{cut, is_right};
 use edge_kit::{Blob, Repo, TakeFault};
@@ -38,7 +39,7 @@ const CASES: &[&str] = &[
 ];
 
 /// The SHA-1 of `blob 3`, NUL, `hi\n`, of the same with `ho\n`, and of `blob 200000`, NUL, 100,000 lines `y`.
-const NAMES: [(u8, [u8; 20]); 3] = [
+const NAMES: [(u8, ObjectId); 3] = [
     (
         b'i',
         *b"\x45\xB9\x83\xBE\x36\xB7\x3C\x07\x88\xDC\x9C\xBC\xB7\x6C\xBB\x80\xFC\x7B\xB0\x57",
@@ -54,7 +55,7 @@ const NAMES: [(u8, [u8; 20]); 3] = [
 ];
 
 /// The name that a letter stands for.
-fn name_of(letter: u8) -> [u8; 20] {
+fn name_of(letter: u8) -> ObjectId {
     for (known, name) in NAMES {
         if known == letter {
             return name;

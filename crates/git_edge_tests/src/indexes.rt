@@ -1,4 +1,5 @@
 //! The index of a repository, and what is said of one.
+use byte_path::ObjectId;
 use crate::place::{folder_after, has_git, open, read_hi, runs};
 use crate::table::{cut, is_right};
 use edge_kit::{Blob, Repo};
@@ -175,7 +176,7 @@ const PARTIAL: &str =
     git -C repo read-tree HEAD";
 
 /// Whether the object with this name is there.
-fn is_there(repo: &mut GitRepo, name: &[u8; 20]) -> io::Result<bool> {
+fn is_there(repo: &mut GitRepo, name: &ObjectId) -> io::Result<bool> {
     let mut blob = repo.blob(name)?;
     let taken = blob.take_all(99);
     repo.take_back(blob);

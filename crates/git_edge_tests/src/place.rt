@@ -1,4 +1,5 @@
 //! A folder of a test's own, and the repository in it.
+use byte_path::ObjectId;
 use edge_kit::{Blob, Repo, TakeFault};
 use git_edge::{GitFault, GitRepo};
 use std::alloc::AllocError;
@@ -100,7 +101,7 @@ pub fn open(rt: HostRuntime, folder: &str, revision: &str) -> Result<GitRepo, Gi
 }
 
 /// The SHA-1 of `blob 3`, NUL, `hi\n`.
-const HI: [u8; 20] =
+const HI: ObjectId =
     *b"\x45\xB9\x83\xBE\x36\xB7\x3C\x07\x88\xDC\x9C\xBC\xB7\x6C\xBB\x80\xFC\x7B\xB0\x57";
 
 /// What is read of the object `hi`.

@@ -5,6 +5,7 @@ ghost use Rattle.std.specs.Int.{w16, w32, from_be_bytes};
 ghost use Rattle.git_index.specs.Spelling.{is_nul, is_not_nul};
 ghost use Rattle.git_index.specs.Reading.{length_at, mode_at, is_known};
 
+use byte_path::ObjectId;
 use crate::entry::Mode;
 
 pub fn is_zero(bytes: &[u8]) -> bool
@@ -58,7 +59,7 @@ pub fn is_known(more: u16) -> bool
 }
 
 /// The object name of an entry.
-pub fn name_of(bytes: &[u8]) -> [u8; 20]
+pub fn name_of(bytes: &[u8]) -> ObjectId
     requires { 62 ≤ length bytes.now }
     ensures { result ≡ take 20 (drop 40 bytes.now) }
 {

@@ -1,6 +1,7 @@
 //! The head of an entry of a pack (gitformat-pack(5)).
 ghost use Rattle.std.specs.Prelude.{IfSome, length, ◌≤◌};
 
+use byte_path::ObjectId;
 use crate::number::{read_distance, read_number};
 use crate::object::StoredKind;
 
@@ -12,7 +13,7 @@ pub enum Inside {
     /// A delta on the entry that begins so many bytes before this one.
     Before(u64),
     /// A delta on the object with this name.
-    On([u8; 20]),
+    On(ObjectId),
 }
 
 /// An entry.

@@ -1,6 +1,7 @@
 //! The index of a pack, version 2 (gitformat-pack(5)).
 ghost use Rattle.std.specs.Prelude.{◌≤◌, ◌<◌, IfOk, IfSome};
 
+use byte_path::ObjectId;
 use crate::fault::ObjectsFault;
 use crate::placed_file::PlacedFile;
 
@@ -49,7 +50,7 @@ fn number_at(bytes: &[u8], place: usize) -> Option<u32> {
 }
 
 /// Which of these names, of 20 bytes each, this one is.
-fn place_of(names: &[u8], name: &[u8; 20]) -> Option<usize> {
+fn place_of(names: &[u8], name: &ObjectId) -> Option<usize> {
     names
         .chunks_exact(20)
         .position(|row| row == name.as_slice())
@@ -111,7 +112,7 @@ impl PackIndex {
     }
 
     /// Narrows a range of places until the names in it can be read at once.
-    fn narrowed(&self, name: &[u8; 20], range: (u32, u32)) -> Result<(u32, u32), ObjectsFault>
+    fn narrowed(&self, name: &ObjectId, range: (u32, u32)) -> Result<(u32, u32), ObjectsFault>
         requires { range.0 ≤ range.1 }
         ensures { IfOk result (λ r. (r.0 ≤ r.1) × (r.1 ≤ range.1)) }
     {
@@ -128,7 +129,7 @@ impl PackIndex {
     }
 
     /// Which object has this name. An index that counts names wrong is broken.
-    fn number_of(&self, name: &[u8; 20]) -> Result<Option<u32>, ObjectsFault>
+    fn number_of(&self, name: &ObjectId) -> Result<Option<u32>, ObjectsFault>
         ensures counted { IfOk result (λ found. IfSome found (λ n. n < self.now.count)) }
     {
         let Some(range) = self.range_of(name[0]) else {
@@ -169,7 +170,7 @@ impl PackIndex {
     }
 
     /// Where the entry of the object with this name begins in the pack, if it is there.
-    pub fn offset_of(&self, name: &[u8; 20]) -> Result<Option<u64>, ObjectsFault> {
+    pub fn offset_of(&self, name: &ObjectId) -> Result<Option<u64>, ObjectsFault> {
         match self.number_of(name)? {
             Some(number) => Ok(Some(self.offset_at(number)?)),
             None => Ok(None),

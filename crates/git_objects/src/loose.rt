@@ -1,6 +1,7 @@
 //! Loose objects: each is a zlib stream in a file of its own (gitrepository-layout(5)).
 ghost use Rattle.std.specs.Prelude.{IfOk, IfSome, ◌≤◌, length};
 
+use byte_path::ObjectId;
 use crate::fault::ObjectsFault;
 use crate::pack::deflated;
 use edge_adapters::read_whole;
@@ -8,7 +9,7 @@ use inflate::inflate;
 use std::alloc::{AllocError, Global};
 
 /// The path of the file of the object with this name, in a folder of objects.
-fn loose_path(alloc: Global, folder: &str, name: &[u8; 20]) -> Result<String, AllocError> {
+fn loose_path(alloc: Global, folder: &str, name: &ObjectId) -> Result<String, AllocError> {
     let (first, others) = name.as_slice().split_at(1);
     let first = hex::encode(alloc, first)?;
     let others = hex::encode(alloc, others)?;
@@ -19,7 +20,7 @@ fn loose_path(alloc: Global, folder: &str, name: &[u8; 20]) -> Result<String, Al
 pub fn loose_object(
     rt: HostRuntime,
     folder: &str,
-    name: &[u8; 20],
+    name: &ObjectId,
     limit: u64,
 ) -> Result<Option<Vec<u8>>, ObjectsFault>
     ensures { IfOk result (λ taken. IfSome taken (λ stored. length stored.items ≤ limit)) }

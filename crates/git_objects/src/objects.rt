@@ -1,6 +1,7 @@
 //! The objects of a repository.
 ghost use Rattle.std.specs.Prelude.{◌≡◌, None, IfOk, IfSome, ◌≤◌, ◌<◌, length, vec_len};
 
+use byte_path::ObjectId;
 use crate::alternates::Folders;
 use crate::fault::ObjectsFault;
 use crate::loose::loose_object;
@@ -154,7 +155,7 @@ impl Objects {
     }
 
     /// What the packs have of an object. Where one fails another may have it too.
-    fn in_packs(&mut self, name: &[u8; 20], limit: u64) -> Result<Option<Vec<u8>>, ObjectsFault>
+    fn in_packs(&mut self, name: &ObjectId, limit: u64) -> Result<Option<Vec<u8>>, ObjectsFault>
         ensures { IfOk result (λ taken. IfSome taken (λ stored. length stored.items ≤ limit)) }
     {
         let mut first = None;
@@ -175,7 +176,7 @@ impl Objects {
     }
 
     /// What the files of loose objects have of an object.
-    fn in_files(&self, name: &[u8; 20], limit: u64) -> Result<Option<Vec<u8>>, ObjectsFault>
+    fn in_files(&self, name: &ObjectId, limit: u64) -> Result<Option<Vec<u8>>, ObjectsFault>
         ensures { IfOk result (λ taken. IfSome taken (λ stored. length stored.items ≤ limit)) }
     {
         let mut first = None;
@@ -193,7 +194,7 @@ impl Objects {
     }
 
     /// What packs or files have of an object.
-    fn look(&mut self, name: &[u8; 20], limit: u64) -> Result<Option<Vec<u8>>, ObjectsFault>
+    fn look(&mut self, name: &ObjectId, limit: u64) -> Result<Option<Vec<u8>>, ObjectsFault>
         ensures { IfOk result (λ taken. IfSome taken (λ stored. length stored.items ≤ limit)) }
     {
         let packed = self.in_packs(name, limit);
@@ -214,7 +215,7 @@ impl Objects {
     /// it isn't there. One that is longer than the limit isn't made, and nothing is checked against the name.
     ///
     /// Where it isn't found packs are listed again, since git may have packed objects anew.
-    pub fn take(&mut self, name: &[u8; 20], limit: u64) -> Result<Option<Vec<u8>>, ObjectsFault>
+    pub fn take(&mut self, name: &ObjectId, limit: u64) -> Result<Option<Vec<u8>>, ObjectsFault>
         ensures within { IfOk result (λ taken. IfSome taken (λ stored. length stored.items ≤ limit)) }
         ensures absent { IfOk result (λ taken. taken ≡ None → self.new.lack ≡ None) }
     {

@@ -1,6 +1,7 @@
 //! A pack (gitformat-pack(5)).
 ghost use Rattle.std.specs.Prelude.{IfOk, IfSome, ◌≤◌, length};
 
+use byte_path::ObjectId;
 use crate::bases::Spot;
 use crate::delta::apply_delta;
 use crate::entry::{Inside, MOST, PackEntry, read_head};
@@ -219,7 +220,7 @@ impl Pack {
     pub fn object(
         &mut self,
         shelf: &PackShelf,
-        name: &[u8; 20],
+        name: &ObjectId,
         limit: u64,
     ) -> Result<Option<Vec<u8>>, ObjectsFault>
         ensures { IfOk result (λ taken. IfSome taken (λ stored. length stored.items ≤ limit)) }

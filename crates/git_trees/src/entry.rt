@@ -1,4 +1,4 @@
-use byte_path::Bytes;
+use byte_path::{Bytes, ObjectId};
 
 /// What an entry stands for.
 #[derive(Clone, Copy, PartialEq, Eq)]
@@ -22,5 +22,5 @@ pub struct TreeEntry {
     /// One part of a path.
     pub name: Bytes,
     /// The SHA-1 name of the object.
-    pub object: [u8; 20],
+    pub object: ObjectId,
 }

@@ -3,6 +3,7 @@ ghost use Rattle.std.specs.Prelude.{◌≡◌, ◌<◌, ◌≤◌, length, take,
 ghost use Rattle.git_trees.specs.Format.{is_space, ends_name};
 ghost use Rattle.git_trees.specs.Reading.{mode_at, begins_mode};
 
+use byte_path::ObjectId;
 use crate::entry::TreeMode;
 
 /// Where the first space stands.
@@ -56,7 +57,7 @@ pub fn begins_mode(bytes: &[u8]) -> bool
 }
 
 /// The object name behind the NUL.
-pub fn object_of(tail: &[u8]) -> [u8; 20]
+pub fn object_of(tail: &[u8]) -> ObjectId
     requires { 21 ≤ length tail.now }
     ensures { result ≡ take 20 (drop 1 tail.now) }
 {

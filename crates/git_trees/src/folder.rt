@@ -10,7 +10,7 @@ use crate::fault::TreeFault;
 use crate::source::TreeSource;
 use crate::tree::{Tree, read_tree};
 use crate::walk_fault::{WalkBounds, WalkFault};
-use byte_path::{Bytes, check_path};
+use byte_path::{Bytes, ObjectId, check_path};
 use edge_kit::TakeFault;
 use git_index::{Entry, Mode};
 use std::alloc::Global;
@@ -106,7 +106,7 @@ pub fn content_of<S: TreeSource>(
     source: &mut S,
     step: WalkStep,
     path: Bytes,
-    object: &[u8; 20],
+    object: &ObjectId,
 ) -> Result<Vec<u8>, WalkFault>
     ensures told { S.told source.new ≡ S.told source.old }
     ensures bytes { IfOk result (λ v. TellsBytes (S.told source.old object.now) v.items) }

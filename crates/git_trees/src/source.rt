@@ -3,6 +3,7 @@ ghost use Rattle.edge_kit.specs.Told.{Takes};
 ghost use Rattle.edge_kit.specs.Faults.{AfterTake};
 ghost use Rattle.git_trees.specs.Walk.{TreesTold};
 
+use byte_path::ObjectId;
 use edge_kit::TakeFault;
 
 /// What gives the contents of trees.
@@ -15,7 +16,7 @@ pub trait TreeSource {
 
     /// The content of the tree with this name, or `None` exactly if there is none. `TooLong` exactly if it has more
     /// than `limit` bytes.
-    fn tree(&mut self, name: &[u8; 20], limit: u64) -> Result<Option<Vec<u8>>, TakeFault>
+    fn tree(&mut self, name: &ObjectId, limit: u64) -> Result<Option<Vec<u8>>, TakeFault>
         ensures told { told self.new ≡ told self.old }
         ensures bytes { Takes (told self.old name.now) limit result }
         ensures faults { AfterTake (faults self.old) (faults self.new) result };

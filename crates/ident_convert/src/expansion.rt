@@ -1,6 +1,7 @@
 ghost use Rattle.std.specs.Prelude.{◌≡◌, IfOk, List, ℕ, false};
 ghost use Rattle.ident_convert.specs.Ident.{keyword_text, expanded, has_keyword};
 
+use byte_path::ObjectId;
 use crate::keyword::first_keyword;
 use std::alloc::{AllocError, Global};
 
@@ -16,7 +17,7 @@ pub fn has_keyword(content: &[u8]) -> bool
 }
 
 /// What takes the place of a keyword: `$Id: `, the blob's name in lower case hex, ` $`.
-fn keyword_text(alloc: Global, name: &[u8; 20]) -> Result<Vec<u8>, AllocError>
+fn keyword_text(alloc: Global, name: &ObjectId) -> Result<Vec<u8>, AllocError>
     ensures { IfOk result (λ text. text.items ≡ keyword_text name.now) }
 {
     let digits = hex::encode(alloc, name.as_slice())?;
@@ -61,7 +62,7 @@ fn with_keyword(alloc: Global, content: &[u8], keyword: &[u8]) -> Result<Vec<u8>
 /// The content of the blob with this name, with its keywords expanded (gitattributes(5), "ident").
 ///
 /// A content without a keyword is copied.
-pub fn expand_ident(alloc: Global, content: &[u8], name: &[u8; 20]) -> Result<Vec<u8>, AllocError>
+pub fn expand_ident(alloc: Global, content: &[u8], name: &ObjectId) -> Result<Vec<u8>, AllocError>
     ensures { IfOk result (λ text. text.items ≡ expanded (keyword_text name.now) content.now) }
 {
     if !has_keyword(content) {

@@ -1,3 +1,4 @@
+use byte_path::ObjectId;
 use thiserror::Error;
 
 /// Why an object gave no content: the first fault that applies.
@@ -19,7 +20,7 @@ pub enum ObjectFault {
     Size,
     /// The SHA-1 of the stored bytes, which isn't the object's name.
     #[error("the object's SHA-1 isn't its name")]
-    WrongName([u8; 20]),
+    WrongName(ObjectId),
     #[error("out of memory")]
     NoMemory,
 }

@@ -3,12 +3,13 @@ ghost use Rattle.std.specs.Prelude.{◌≡◌, IfOk, string_bytes};
 ghost use Rattle.sha1.specs.Sha1.{sha1};
 ghost use Rattle.object_dir.specs.Spelling.{spelled_blob, path_of};
 
+use byte_path::ObjectId;
 use itoa::Buffer;
 use sha1::Sha1;
 use std::alloc::{AllocError, Global};
 
 /// The name of the blob with this content: the SHA-1 of its stored bytes. It takes no memory.
-pub fn blob_name(content: &[u8]) -> [u8; 20]
+pub fn blob_name(content: &[u8]) -> ObjectId
     ensures { result ≡ sha1 (spelled_blob content.now) }
 {
     let mut size = Buffer::new();
@@ -37,7 +38,7 @@ pub fn spell_blob(alloc: Global, content: &[u8]) -> Result<Vec<u8>, AllocError>
 }
 
 /// The path of an object's file in its repository: `objects/`, two hexadecimal digits of the name, `/`, the other 38.
-pub fn object_path(alloc: Global, name: &[u8; 20]) -> Result<String, AllocError>
+pub fn object_path(alloc: Global, name: &ObjectId) -> Result<String, AllocError>
     ensures { IfOk result (λ path. string_bytes path ≡ path_of name.now) }
 {
     let (first, others) = name.as_slice().split_at(1);

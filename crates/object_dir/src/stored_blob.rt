@@ -10,7 +10,7 @@ ghost use Rattle.object_dir.specs.Taking.{stored_in};
 
 use crate::fault::ObjectFault;
 use crate::taken_blob::take_blob;
-use byte_path::{is_decimal, read_decimal};
+use byte_path::{ObjectId, is_decimal, read_decimal};
 use edge_kit::{Blob, TakeFault};
 use sha1::Sha1;
 use std::alloc::Global;
@@ -51,7 +51,7 @@ fn is_length(size: &[u8], len: usize) -> bool
 }
 
 /// The SHA-1 of stored bytes, which may be known.
-fn sha1_of(stored: &[u8], known: Option<[u8; 20]>) -> [u8; 20]
+fn sha1_of(stored: &[u8], known: Option<ObjectId>) -> ObjectId
     requires { IfSome known (λ found. found ≡ sha1 stored.now) }
     ensures { result ≡ sha1 stored.now }
 {
@@ -65,8 +65,8 @@ fn sha1_of(stored: &[u8], known: Option<[u8; 20]>) -> [u8; 20]
 #[tactic(auto, unfolding(crate::specs::Object::stored_content))]
 fn content_start(
     stored: &[u8],
-    name: &[u8; 20],
-    known: Option<[u8; 20]>,
+    name: &ObjectId,
+    known: Option<ObjectId>,
 ) -> Result<usize, ObjectFault>
     requires { IfSome known (λ found. found ≡ sha1 stored.now) }
     ensures { MatchResult result
@@ -90,8 +90,8 @@ fn content_start(
 /// The content of stored bytes, in the memory of these bytes.
 fn content_in(
     mut stored: Vec<u8>,
-    name: &[u8; 20],
-    known: Option<[u8; 20]>,
+    name: &ObjectId,
+    known: Option<ObjectId>,
 ) -> Result<Vec<u8>, ObjectFault>
     requires { IfSome known (λ found. found ≡ sha1 stored.items) }
     ensures { MatchResult result
@@ -112,8 +112,8 @@ fn content_in(
 /// The content of the object with this name, from what its blob gave. Only the blob can run out of memory.
 pub(crate) fn object_in(
     taken: Result<Option<Vec<u8>>, TakeFault>,
-    name: &[u8; 20],
-    known: Option<[u8; 20]>,
+    name: &ObjectId,
+    known: Option<ObjectId>,
 ) -> Result<Vec<u8>, ObjectFault>
     requires { IfSome known (λ found. found ≡ sha1 (stored_in taken)) }
     ensures { MatchResult result
@@ -133,7 +133,7 @@ pub(crate) fn object_in(
 pub fn read_blob<B: Blob>(
     _alloc: Global,
     blob: &mut B,
-    name: &[u8; 20],
+    name: &ObjectId,
 ) -> Result<Vec<u8>, ObjectFault>
     ensures told { B.told blob.new ≡ B.told blob.old }
     ensures object { IsObject (B.told blob.old) name.now result }

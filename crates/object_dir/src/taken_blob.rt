@@ -5,6 +5,7 @@ ghost use Rattle.sha1.specs.Sha1.{sha1};
 ghost use Rattle.object_dir.specs.Object.{IsObject, AfterRead};
 ghost use Rattle.object_dir.specs.Taking.{IsTaken, stored_in, stored_of};
 
+use byte_path::ObjectId;
 use crate::fault::ObjectFault;
 use crate::stored_blob::{MAX_STORED, object_in};
 use edge_kit::{Blob, TakeFault};
@@ -14,13 +15,13 @@ use sha1_lanes::digest_four;
 #[derive(Drop)]
 pub struct Taken {
     stored: Result<Option<Vec<u8>>, TakeFault>,
-    name: [u8; 20],
+    name: ObjectId,
     /// The SHA-1 of the stored bytes, if it was found before.
-    known: Option<[u8; 20]>,
+    known: Option<ObjectId>,
 }
 
 /// Takes the stored bytes of the object with this name, whose blob this is, and checks none of them.
-pub fn take_blob<B: Blob>(blob: &mut B, name: &[u8; 20]) -> Taken
+pub fn take_blob<B: Blob>(blob: &mut B, name: &ObjectId) -> Taken
     ensures told { B.told blob.new ≡ B.told blob.old }
     ensures kept { B.seen blob.new ≡
         record (B.seen blob.old) { faults = (B.seen blob.new).faults } }
@@ -46,7 +47,7 @@ impl Taken {
     }
 
     /// Keeps the SHA-1 of the stored bytes, which was found.
-    pub fn keep_sha1(&mut self, found: [u8; 20])
+    pub fn keep_sha1(&mut self, found: ObjectId)
         requires { found ≡ sha1 (stored_in self.old.stored) }
         ensures { self.new ≡ record self.old { known = Some found } }
     {
@@ -84,7 +85,7 @@ pub fn sha1_of_four(
     b: Option<&Taken>,
     c: Option<&Taken>,
     d: Option<&Taken>,
-) -> [[u8; 20]; 4]
+) -> [ObjectId; 4]
     ensures { result ≡ sha1 (stored_of a.entry) ∷ sha1 (stored_of b.entry) ∷ sha1 (stored_of c.entry)
         ∷ sha1 (stored_of d.entry) ∷ [] }
 {

@@ -20,6 +20,7 @@
 ghost use Rattle.std.specs.Prelude.{◌≡◌};
 ghost use Rattle.edge_kit.specs.declared.leaf_state.LeafState.TheVariants as leaf_state;
 
+use byte_path::ObjectId;
 use crate::delays::table_of_six;
 use crate::page::{Counter, Page};
 use crate::pipe::Pipe;
@@ -33,7 +34,7 @@ use std::alloc::{AllocError, Global};
 use std::test::Fail;
 
 /// The name that `git hash-object` gives to a pointer of 130 bytes to a large file. Each request has this name.
-const NAME: [u8; 20] =
+const NAME: ObjectId =
     *b"\x60\xc8\xd8\xab\x2a\xdc\xf5\x7a\x39\x11\x63\xa7\xee\xb0\xcd\xb8\xbf\x34\x8e\x44";
 
 /// What came of a request.

@@ -3,6 +3,7 @@
 //! The kind `writing` has the steps `hello`, `caps`, `list`, `flush`, `line`, `payload`, `content`, and `smudge` and
 //! `smudge-late`, each with a path and behind a space the content. The step `nulls` says that the next requests have
 //! the name of 20 NULs, and not that with each hexadecimal digit.
+use byte_path::ObjectId;
 use crate::runs::{folded, unfolded};
 use case_kit::{Cell, Words, found, given, parted, unknown};
 use filter_words::{push_caps, push_hello, push_list, push_smudge};
@@ -11,14 +12,14 @@ use std::alloc::Global;
 use std::test::Fail;
 
 /// A name with each hexadecimal digit.
-const LETTERS: [u8; 20] =
+const LETTERS: ObjectId =
     *b"\x01\x23\x45\x67\x89\xab\xcd\xef\xfe\xdc\xba\x98\x76\x54\x32\x10\x00\xff\x0a\xa0";
 
 /// Appends a request for a path, which may wait or not.
 fn push_request(
     alloc: Global,
     out: &mut Vec<u8>,
-    name: &[u8; 20],
+    name: &ObjectId,
     can_delay: bool,
     value: &[u8],
 ) -> Result<(), Fail> {
@@ -78,7 +79,7 @@ const STEPS: Words<Step> = &[
 fn take_step(
     alloc: Global,
     out: &mut Vec<u8>,
-    name: &mut [u8; 20],
+    name: &mut ObjectId,
     cell: &Cell,
 ) -> Result<(), Fail> {
     let value = cell.value.as_slice();

@@ -5,7 +5,7 @@ ghost use Rattle.rehearsal.specs.Repository.{File, files, entry_of, IsRepository
 ghost use Rattle.rehearsal.specs.Stored.{IsStored};
 
 use crate::paths::{path_content, path_name};
-use byte_path::Bytes;
+use byte_path::{Bytes, ObjectId};
 use edge_kit::{MemoryRepo, Repo};
 use git_index::{Entry, Mode, spell_index};
 use object_dir::{blob_name, spell_blob};
@@ -23,7 +23,7 @@ const CONFIG: &[u8] = b"[checkout]\nworkers = 4\nthresholdForParallelism = 1\n\
 #[derive(Drop)]
 pub struct Stored {
     pub entries: Vec<Entry>,
-    pub objects: Vec<([u8; 20], Vec<u8>)>,
+    pub objects: Vec<(ObjectId, Vec<u8>)>,
 }
 
 /// Adds a file.

@@ -1,6 +1,7 @@
 //! The index that a checkout or a check-in leaves, with what is told of its files, so that git needn't read them.
 ghost use Rattle.git_index.specs.Spelling.{CanStand};
 
+use byte_path::ObjectId;
 use crate::faults::{refuse_repository, refuse_wish, say};
 use crate::own_index::MOST_INDEX;
 use crate::worktree::is_same_folder;
@@ -199,7 +200,7 @@ fn with_assumed(
 fn trees_of(
     alloc: Global,
     entries: &[Entry],
-    tree: &[u8; 20],
+    tree: &ObjectId,
 ) -> Result<Option<TreeCache>, AllocError> {
     let Some(cache) = cache_of(alloc, entries)? else {
         return Ok(None);
@@ -217,7 +218,7 @@ fn with_trees(
     alloc: Global,
     index: Vec<u8>,
     entries: &[Entry],
-    tree: &[u8; 20],
+    tree: &ObjectId,
 ) -> Result<Vec<u8>, AllocError> {
     let Some(cache) = trees_of(alloc, entries, tree)? else {
         return Ok(index);
@@ -239,7 +240,7 @@ pub fn with_stats(
     version: Version,
     index: &[u8],
     told: ToldFiles<'_>,
-    tree: Option<[u8; 20]>,
+    tree: Option<ObjectId>,
 ) -> Result<Option<Vec<u8>>, AllocError> {
     let (Ok(read), Some(raw)) = (read_index(alloc, index), RawIndex::read(alloc, index)?) else {
         return Ok(None);

@@ -3,6 +3,7 @@ ghost use Rattle.std.specs.Prelude.{◌≡◌, IfOk};
 ghost use Rattle.std.specs.List.{list_all};
 ghost use Rattle.tree_cache.specs.Folders.{is_cached_entry, GivesCache};
 
+use byte_path::ObjectId;
 use crate::folder::{folder_of, node_of};
 use git_index::Entry;
 use std::alloc::{AllocError, Global};
@@ -14,7 +15,7 @@ const MOST_FOLDERS: u32 = 4097;
 #[derive(Drop)]
 pub struct TreeCache {
     /// The name of the root tree. It names, with the trees below it, each tree of the cache.
-    pub root: [u8; 20],
+    pub root: ObjectId,
     /// The content of the extension.
     pub text: Vec<u8>,
 }
@@ -51,12 +52,12 @@ pub fn cache_of(alloc: Global, entries: &[Entry]) -> Result<Option<TreeCache>, A
 #[cfg(test)]
 mod tests {
     use super::cache_of;
-    use byte_path::Bytes;
+    use byte_path::{Bytes, ObjectId};
     use git_index::{Entry, Mode};
     use std::alloc::AllocError;
 
     /// The empty blob.
-    const EMPTY: [u8; 20] =
+    const EMPTY: ObjectId =
         *b"\xE6\x9D\xE2\x9B\xB2\xD1\xD6\x43\x4B\x8B\x29\xAE\x77\x5A\xD8\xC2\xE4\x8C\x53\x91";
 
     /// What `git write-tree` leaves in the index of these paths.

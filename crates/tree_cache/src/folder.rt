@@ -3,6 +3,7 @@ ghost use Rattle.std.specs.Prelude.{◌≡◌, ◌<◌, ◌≤◌, ◌+◌, true
 ghost use Rattle.std.specs.List.{list_all};
 ghost use Rattle.tree_cache.specs.Folders.{IsFolder, IsCached, is_cached_entry, node, nodes_text};
 
+use byte_path::ObjectId;
 use crate::line::{mode_text, push_node_line, push_tree_line, tree_name};
 use crate::run::{rest_of, run_len, slash_in};
 use git_index::Entry;
@@ -12,7 +13,7 @@ use std::alloc::{AllocError, Global};
 #[derive(Drop)]
 pub struct Folder {
     /// The name of its tree.
-    pub tree: [u8; 20],
+    pub tree: ObjectId,
     /// How many folders stand in it.
     pub subfolders: usize,
     /// What is told of these, and of the folders below them.

@@ -3,6 +3,7 @@ ghost use Rattle.std.specs.Prelude.{◌≡◌, ◌++◌, length, OnOk};
 ghost use Rattle.sha1.specs.Sha1.{sha1};
 ghost use Rattle.tree_cache.specs.Folders.{mode_text, tree_line, spelled_tree, node_line};
 
+use byte_path::ObjectId;
 use git_index::Mode;
 use itoa::Buffer;
 use sha1::Sha1;
@@ -25,7 +26,7 @@ pub fn push_tree_line(
     content: &mut Vec<u8>,
     mode: &[u8],
     name: &[u8],
-    object: &[u8; 20],
+    object: &ObjectId,
 ) -> Result<(), AllocError>
     ensures { OnOk result
         (content.new.items ≡ content.old.items ++ tree_line mode.now name.now object.now) }
@@ -38,7 +39,7 @@ pub fn push_tree_line(
 }
 
 /// The name of the tree with this content.
-pub fn tree_name(content: &[u8]) -> [u8; 20]
+pub fn tree_name(content: &[u8]) -> ObjectId
     ensures { result ≡ sha1 (spelled_tree content.now) }
 {
     let mut size = Buffer::new();
@@ -56,7 +57,7 @@ pub fn push_node_line(
     name: &[u8],
     entries: usize,
     subfolders: usize,
-    tree: &[u8; 20],
+    tree: &ObjectId,
 ) -> Result<(), AllocError>
     ensures { OnOk result
         (text.new.items ≡ text.old.items ++ node_line name.now entries subfolders tree.now) }
