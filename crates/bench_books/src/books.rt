@@ -3,10 +3,10 @@ ghost use Rattle.std.specs.Prelude.{◌≡◌, IfOk};
 ghost use Rattle.convert_plan.specs.Card.{IsNewCard};
 ghost use Rattle.checkout_book.specs.Sights.{sight, seen};
 
-use byte_path::ObjectId;
 use crate::cards::new_card;
 use crate::lists::both;
 use crate::runs::{by_all, by_one_worker};
+use byte_path::ObjectId;
 use checkout_book::ended::Ended;
 use checkout_core::Verdict;
 use convert_plan::Card;

@@ -5,9 +5,9 @@ ghost use Rattle.sha1.specs.Sha1.{sha1};
 ghost use Rattle.checkout_book.specs.Sights.{sight};
 ghost use Rattle.card_worker.specs.Holding.{AreSame, AreSameSlots, stored_in_slot};
 
-use byte_path::ObjectId;
 use crate::few::{Few, ROOM};
 use crate::held::{Held, keep_known, read_held};
+use byte_path::ObjectId;
 use edge_kit::{Blob, Leaf};
 use object_dir::Taken;
 use sha1_lanes::digest_all;

@@ -5,9 +5,9 @@ ghost use Rattle.convert_plan.specs.Card.{card_seen};
 ghost use Rattle.checkout_book.specs.Sights.{sight};
 ghost use Rattle.card_worker.specs.Holding.{HoldsCard, SameHeld, IsToBeWritten, IsWrittenSo, stored_in_held};
 
-use byte_path::ObjectId;
 use crate::leaf::write_leaf;
 use crate::written::{Written, write_card};
+use byte_path::ObjectId;
 use convert_plan::Card;
 use driver_desk::prepared_from;
 use edge_kit::{Blob, Leaf};

@@ -3,11 +3,11 @@ ghost use Rattle.std.specs.Prelude.{◌≡◌, ◌++◌, IfOk, None, string_byte
 ghost use Rattle.edge_kit.specs.Faults.{AfterSend};
 ghost use Rattle.checkin_edge.specs.Places.{folder_of, file_of};
 
-use byte_path::ObjectId;
 use crate::held_entries::{HeldEntry, with_held};
 use crate::new_file::{ObjectFolder, replace_file, write_once};
 use crate::stored_object::has_object;
 use crate::zlib_store::zlib_stored;
+use byte_path::ObjectId;
 use checkin_paths::Keep;
 use edge_adapters::path_in;
 use edge_kit::SendFault;

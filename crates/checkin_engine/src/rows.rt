@@ -5,8 +5,8 @@ ghost use Rattle.reports.specs.Forms.{path_row};
 ghost use Rattle.checkin_paths.specs.declared.fate.Fate.TheVariants.{Changed, Failed};
 ghost use Rattle.checkin_engine.specs.Rows.{state_field, fate_row, numbers_row, done_row, checkin_rows};
 
-use byte_path::ObjectId;
 use crate::report::{changed_count, failed_count, gone_count, kept_count, same_count};
+use byte_path::ObjectId;
 use checkin_paths::{CheckinCause, CheckinPath, Fate};
 use reports::{Cell, CellValue, Count, PathRow, ReportForm, Row, Rows, spelled};
 use std::alloc::{AllocError, Global};

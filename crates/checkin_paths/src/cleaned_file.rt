@@ -6,8 +6,7 @@ ghost use Rattle.checkin_paths.specs.Looks.{AnswersFor, CleansFile, IsAskableBy}
 
 use crate::path::{CheckinPath, PathDriver};
 use byte_path::Bytes;
-use clean_drivers::{CleanDrivers, Question, clean};
-use clean_drivers::CleanFault;
+use clean_drivers::{CleanDrivers, CleanFault, Question, clean};
 use edge_kit::Spawner;
 use one_shot::Once;
 use settings_view::Driver;

@@ -6,10 +6,10 @@ ghost use Rattle.checkin_paths.specs.Outcomes.{MakesBlob};
 ghost use Rattle.checkin_paths.specs.Looks.{AnswersWithout, AnswersCrlf, LooksOld, IsFoundBy};
 ghost use Rattle.checkin_paths.specs.Looks.{IsUnfailedTake, FindsThere, FindsTaken, Finds, found_failed};
 
-use byte_path::ObjectId;
 use crate::files::Files;
 use crate::path::CheckinPath;
 use back_convert::has_crlf;
+use byte_path::ObjectId;
 use checkout_plan::object_content;
 use edge_kit::{Repo, TakeFault};
 use eol_convert::Action;

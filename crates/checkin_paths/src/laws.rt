@@ -1,9 +1,9 @@
 //! What comes back unchanged.
 ghost use Rattle.checkin_paths.specs.BackAgain.{LosesNothing, ComesBack};
 
-use byte_path::ObjectId;
 use crate::path::Storing;
 use back_convert::content_comes_back;
+use byte_path::ObjectId;
 use object_dir::content_has_one_spelling;
 
 /// The law that a path comes back: if its file is what a checkout without drivers makes of the content that its stored

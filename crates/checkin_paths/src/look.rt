@@ -8,15 +8,14 @@ ghost use Rattle.checkin_paths.specs.CleanedFiles.{cleaning};
 ghost use Rattle.checkin_paths.specs.Looks.{fate_by, IsStoredSo, IsCleanedFate, Becomes};
 ghost use Rattle.checkin_paths.specs.Looks.{BecomesNothing, Looks, IsAskableBy, IsOpen};
 
-use byte_path::ObjectId;
 use crate::cleaned_file::{Visit, clean_file};
 use crate::fate::{CheckinCause, Fate};
 use crate::files::Files;
 use crate::found_file::{Found, find_file};
 use crate::path::{Storing, Way};
 use back_convert::{BackFault, to_stored};
-use clean_drivers::CleanDrivers;
-use clean_drivers::CleanFault;
+use byte_path::ObjectId;
+use clean_drivers::{CleanDrivers, CleanFault};
 use edge_kit::{Repo, Spawner};
 use object_dir::blob_name;
 use one_shot::Once;

@@ -1,6 +1,6 @@
 //! The index of a case, as git spells it (gitformat-index(5)).
-use byte_path::ObjectId;
 use crate::objects::{HI, NO_ENTRIES, ONE_ENTRY, name_of, named_by};
+use byte_path::ObjectId;
 use case_kit::{Words, found, given, meant, number_of, parted, unknown};
 use std::alloc::{AllocError, Global};
 use std::test::Fail;

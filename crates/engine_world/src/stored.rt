@@ -1,6 +1,6 @@
 //! The repository of a case but for its index.
-use byte_path::ObjectId;
 use crate::objects::{HI, OBJECTS, named_by};
+use byte_path::ObjectId;
 use case_kit::{Words, given, meant, number_of, parted, unknown};
 use edge_kit::{MemoryRepo, RepoFail};
 use object_dir::{blob_name, spell_blob};

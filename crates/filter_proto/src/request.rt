@@ -14,11 +14,11 @@ ghost use Rattle.filter_proto.specs.Complete.{IsComplete};
 ghost use Rattle.filter_proto.specs.Steps.{FlushIs, StepIs, StepBegins};
 ghost use Rattle.filter_proto.specs.declared.asked.Step.TheVariants as step;
 
-use byte_path::ObjectId;
 use crate::asked::{Asked, Reading, Step};
 use crate::laws::complete;
 use crate::sent_parts::SmudgeRequest;
 use crate::session::{Session, Standing};
+use byte_path::ObjectId;
 use edge_kit::{Leaf, Link, SendFault};
 use filter_words::{
     AnswerState, BreakCause, MOST_ANSWER, Reply, ReplyPhase, reply_after_flush, reply_after_line,

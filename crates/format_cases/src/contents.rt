@@ -1,6 +1,6 @@
 //! Keywords and encodings.
-use byte_path::ObjectId;
 use crate::states::{encoding_named, state_of};
+use byte_path::ObjectId;
 use case_kit::{noted, shown};
 use ident_convert::{expand_ident, has_keyword};
 use std::alloc::{AllocError, Global};

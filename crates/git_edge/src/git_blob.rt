@@ -1,8 +1,8 @@
 ghost use Rattle.std.specs.Prelude.{◌≡◌};
 ghost use Rattle.edge_kit.specs.Told.{Untold};
 
-use byte_path::ObjectId;
 use crate::object_pool::ObjectPool;
+use byte_path::ObjectId;
 use edge_kit::{Blob, TakeFault};
 use std::alloc::Global;
 use std::sync::Arc;

@@ -22,7 +22,7 @@ use git_answers::{
     notes_of, place_of, refused_setting, sharing_of, word_of,
 };
 use git_index::{Version, index_version};
-use git_tree::Keeps;
+use git_worktree::Keeps;
 use std::alloc::{AllocError, Global};
 use std::sync::Arc;
 

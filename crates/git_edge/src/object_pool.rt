@@ -1,10 +1,10 @@
 //! Readers of objects, shared by the threads that read them.
 ghost use Rattle.edge_kit.specs.Told.{Untold, Takes};
 
-use byte_path::ObjectId;
 use crate::lent::Lent;
 use crate::object_reader::{ObjectReader, Store, Wanted};
 use crate::scratch::Scratch;
+use byte_path::ObjectId;
 use edge_kit::TakeFault;
 use git_answers::Git;
 use git_commit::StoredObjects;

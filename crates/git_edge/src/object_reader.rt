@@ -2,8 +2,8 @@
 ghost use Rattle.std.specs.Prelude.{◌≢◌, ◌≤◌, IfOk, IfSome, None, length};
 ghost use Rattle.edge_kit.specs.Told.{Untold, Takes};
 
-use byte_path::ObjectId;
 use crate::cat_file::CatFile;
+use byte_path::ObjectId;
 use edge_kit::TakeFault;
 use git_answers::{Git, fault_of};
 use git_objects::{Objects, ObjectsFault, PackShelf};

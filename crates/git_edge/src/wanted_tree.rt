@@ -1,9 +1,9 @@
 //! The tree that is wanted in place of the index.
 ghost use Rattle.edge_kit.specs.Told.{Untold, Takes};
 
-use byte_path::ObjectId;
 use crate::index_file::index_by_git;
 use crate::object_pool::ObjectPool;
+use byte_path::ObjectId;
 use edge_kit::TakeFault;
 use git_answers::{FoundRepository, Git, GitFault, tree_by_git};
 use git_commit::{TreeIndex, index_of, root_tree};

@@ -1,7 +1,7 @@
 //! What a child gives that is asked for objects ahead.
-use byte_path::ObjectId;
 use crate::place::{folder_after, has_git, open, runs};
 use crate::table::{cut, is_right};
+use byte_path::ObjectId;
 use edge_kit::{Blob, Repo, TakeFault};
 use git_edge::{GitBlob, GitRepo};
 use std::alloc::AllocError;

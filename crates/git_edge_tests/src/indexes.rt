@@ -1,7 +1,7 @@
 //! The index of a repository, and what is said of one.
-use byte_path::ObjectId;
 use crate::place::{folder_after, has_git, open, read_hi, runs};
 use crate::table::{cut, is_right};
+use byte_path::ObjectId;
 use edge_kit::{Blob, Repo};
 use git_edge::GitRepo;
 use git_index::{Entry, read_index};

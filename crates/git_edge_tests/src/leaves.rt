@@ -2,7 +2,7 @@
 use crate::place::{folder_after, path_in, runs};
 use crate::table::{cut, is_right};
 use edge_kit::{Leaf, LeafState, Mark, Worktree};
-use git_tree::{GitLeaf, GitTree, Keeps};
+use git_worktree::{GitLeaf, GitTree, Keeps};
 use std::fs::{remove_dir_all, remove_file};
 use std::sync::Arc;
 use std::sync::atomic::AtomicBool;

@@ -5,8 +5,8 @@ ghost use Rattle.std.specs.Int.{w16, w32, from_be_bytes};
 ghost use Rattle.git_index.specs.Spelling.{is_nul, is_not_nul};
 ghost use Rattle.git_index.specs.Reading.{length_at, mode_at, is_known};
 
-use byte_path::ObjectId;
 use crate::entry::Mode;
+use byte_path::ObjectId;
 
 pub fn is_zero(bytes: &[u8]) -> bool
     ensures { result ≡ list_all is_nul bytes.now }

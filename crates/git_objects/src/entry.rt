@@ -1,9 +1,9 @@
 //! The head of an entry of a pack (gitformat-pack(5)).
 ghost use Rattle.std.specs.Prelude.{IfSome, length, ◌≤◌};
 
-use byte_path::ObjectId;
 use crate::number::{read_distance, read_number};
 use crate::object::StoredKind;
+use byte_path::ObjectId;
 
 /// What the stream of an entry has.
 #[derive(Clone, Copy)]

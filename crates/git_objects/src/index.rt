@@ -1,9 +1,9 @@
 //! The index of a pack, version 2 (gitformat-pack(5)).
 ghost use Rattle.std.specs.Prelude.{◌≤◌, ◌<◌, IfOk, IfSome};
 
-use byte_path::ObjectId;
 use crate::fault::ObjectsFault;
 use crate::placed_file::PlacedFile;
+use byte_path::ObjectId;
 
 /// How many bytes are before the names: the signature, the version and the counts of names by their first byte.
 const HEAD: u64 = 1032;

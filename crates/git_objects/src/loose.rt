@@ -1,9 +1,9 @@
 //! Loose objects: each is a zlib stream in a file of its own (gitrepository-layout(5)).
 ghost use Rattle.std.specs.Prelude.{IfOk, IfSome, ◌≤◌, length};
 
-use byte_path::ObjectId;
 use crate::fault::ObjectsFault;
 use crate::pack::deflated;
+use byte_path::ObjectId;
 use edge_adapters::read_whole;
 use inflate::inflate;
 use std::alloc::{AllocError, Global};

@@ -1,13 +1,13 @@
 //! The objects of a repository.
 ghost use Rattle.std.specs.Prelude.{◌≡◌, None, IfOk, IfSome, ◌≤◌, ◌<◌, length, vec_len};
 
-use byte_path::ObjectId;
 use crate::alternates::Folders;
 use crate::fault::ObjectsFault;
 use crate::loose::loose_object;
 use crate::pack::Pack;
 use crate::placed_file::PlacedFile;
 use crate::shelf::{PackShelf, USUAL_BASES};
+use byte_path::ObjectId;
 use edge_adapters::path_in;
 use std::alloc::Global;
 use std::fs::read_dir;

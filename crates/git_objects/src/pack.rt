@@ -1,7 +1,6 @@
 //! A pack (gitformat-pack(5)).
 ghost use Rattle.std.specs.Prelude.{IfOk, IfSome, ◌≤◌, length};
 
-use byte_path::ObjectId;
 use crate::bases::Spot;
 use crate::delta::apply_delta;
 use crate::entry::{Inside, MOST, PackEntry, read_head};
@@ -12,6 +11,7 @@ use crate::placed_file::PlacedFile;
 use crate::shared_object::SharedObject;
 use crate::shelf::{NumberedIndex, PackShelf};
 use crate::windowed_file::WindowedFile;
+use byte_path::ObjectId;
 use inflate::{InflateFault, inflate};
 use std::alloc::Global;
 use std::sync::Arc;

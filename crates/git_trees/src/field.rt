@@ -3,8 +3,8 @@ ghost use Rattle.std.specs.Prelude.{◌≡◌, ◌<◌, ◌≤◌, length, take,
 ghost use Rattle.git_trees.specs.Format.{is_space, ends_name};
 ghost use Rattle.git_trees.specs.Reading.{mode_at, begins_mode};
 
-use byte_path::ObjectId;
 use crate::entry::TreeMode;
+use byte_path::ObjectId;
 
 /// Where the first space stands.
 pub fn first_space(bytes: &[u8]) -> Option<usize>

@@ -1,8 +1,8 @@
 ghost use Rattle.std.specs.Prelude.{◌≡◌, IfOk, List, ℕ, false};
 ghost use Rattle.ident_convert.specs.Ident.{keyword_text, expanded, has_keyword};
 
-use byte_path::ObjectId;
 use crate::keyword::first_keyword;
+use byte_path::ObjectId;
 use std::alloc::{AllocError, Global};
 
 /// Whether a content has a keyword: `$Id$`, or `$Id:`, a middle and `$`. The middle has no LF, and a space only as its

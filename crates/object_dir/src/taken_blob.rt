@@ -5,9 +5,9 @@ ghost use Rattle.sha1.specs.Sha1.{sha1};
 ghost use Rattle.object_dir.specs.Object.{IsObject, AfterRead};
 ghost use Rattle.object_dir.specs.Taking.{IsTaken, stored_in, stored_of};
 
-use byte_path::ObjectId;
 use crate::fault::ObjectFault;
 use crate::stored_blob::{MAX_STORED, object_in};
+use byte_path::ObjectId;
 use edge_kit::{Blob, TakeFault};
 use sha1_lanes::digest_four;
 

@@ -20,11 +20,11 @@
 ghost use Rattle.std.specs.Prelude.{◌≡◌};
 ghost use Rattle.edge_kit.specs.declared.leaf_state.LeafState.TheVariants as leaf_state;
 
-use byte_path::ObjectId;
 use crate::delays::table_of_six;
 use crate::page::{Counter, Page};
 use crate::pipe::Pipe;
 use crate::runs::{folded, unfolded};
+use byte_path::ObjectId;
 use case_kit::{Cell, Words, found, given, meant, number_of, parted, push_all, shown, unknown};
 use delay_table::DelayTable;
 use edge_kit::{Link, SendFault};

@@ -3,8 +3,8 @@
 //! The kind `writing` has the steps `hello`, `caps`, `list`, `flush`, `line`, `payload`, `content`, and `smudge` and
 //! `smudge-late`, each with a path and behind a space the content. The step `nulls` says that the next requests have
 //! the name of 20 NULs, and not that with each hexadecimal digit.
-use byte_path::ObjectId;
 use crate::runs::{folded, unfolded};
+use byte_path::ObjectId;
 use case_kit::{Cell, Words, found, given, parted, unknown};
 use filter_words::{push_caps, push_hello, push_list, push_smudge};
 use pkt_line::{push_content, push_flush, push_line, push_payload};

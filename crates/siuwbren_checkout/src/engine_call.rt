@@ -10,7 +10,7 @@ use edge_adapters::ProcessSpawner;
 use edge_kit::Spawner;
 use exit_status::ExitStatus;
 use git_edge::GitRepo;
-use git_tree::{Driven, GitTree, Keeps};
+use git_worktree::{Driven, GitTree, Keeps};
 use one_shot::OnceSpawner;
 use program_kit::{CountingTree, Progress, show_drivers, show_errors};
 use siuwbren_index::{GatheredSink, updated_index};

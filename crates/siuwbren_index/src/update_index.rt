@@ -1,10 +1,10 @@
 //! The index that a checkout or a check-in leaves, with what is told of its files, so that git needn't read them.
 ghost use Rattle.git_index.specs.Spelling.{CanStand};
 
-use byte_path::ObjectId;
 use crate::faults::{refuse_repository, refuse_wish, say};
 use crate::own_index::MOST_INDEX;
 use crate::worktree::is_same_folder;
+use byte_path::ObjectId;
 use checkin_edge::{RawEntry, RawIndex};
 use edge_kit::Repo;
 use exit_status::ExitStatus;

@@ -3,8 +3,8 @@ ghost use Rattle.std.specs.Prelude.{◌≡◌, IfOk};
 ghost use Rattle.std.specs.List.{list_all};
 ghost use Rattle.tree_cache.specs.Folders.{is_cached_entry, GivesCache};
 
-use byte_path::ObjectId;
 use crate::folder::{folder_of, node_of};
+use byte_path::ObjectId;
 use git_index::Entry;
 use std::alloc::{AllocError, Global};
 

@@ -3,9 +3,9 @@ ghost use Rattle.std.specs.Prelude.{◌≡◌, ◌<◌, ◌≤◌, ◌+◌, true
 ghost use Rattle.std.specs.List.{list_all};
 ghost use Rattle.tree_cache.specs.Folders.{IsFolder, IsCached, is_cached_entry, node, nodes_text};
 
-use byte_path::ObjectId;
 use crate::line::{mode_text, push_node_line, push_tree_line, tree_name};
 use crate::run::{rest_of, run_len, slash_in};
+use byte_path::ObjectId;
 use git_index::Entry;
 use std::alloc::{AllocError, Global};
 

@@ -1,6 +1,6 @@
 //! What a leaf makes, by its mark and by what the worktree's file system keeps.
 ghost use Rattle.std.specs.Prelude.{◌≡◌};
-ghost use Rattle.git_tree.specs.Kinds.{kind_of, mode_of};
+ghost use Rattle.git_worktree.specs.Kinds.{kind_of, mode_of};
 
 use edge_kit::Mark;
 

@@ -1,7 +1,7 @@
 ghost use Rattle.std.specs.Prelude.{◌≡◌, ◌+◌, ◌≤◌, IfOk, None, true, string_bytes, vec_len, vec_capacity};
 ghost use Rattle.edge_kit.specs.declared.leaf_state.LeafState.TheVariants.{Fresh};
 ghost use Rattle.edge_adapters.specs.Paths.{path_in};
-ghost use Rattle.git_tree.specs.Kinds.{kind_of};
+ghost use Rattle.git_worktree.specs.Kinds.{kind_of};
 
 use crate::kinds::{Keeps, kind_of};
 use crate::leaf::{Driven, FolderMade, GitLeaf};

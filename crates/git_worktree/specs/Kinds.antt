@@ -2,10 +2,10 @@
 use Rattle.std.specs.Prelude.{◌≡◌, ℕ, if◌then◌else◌}
 use Rattle.edge_kit.specs.declared.leaf_state.Mark.{Mark}
 use Rattle.edge_kit.specs.declared.leaf_state.Mark.TheVariants as mark
-use Rattle.git_tree.specs.declared.kinds.Keeps.{Keeps}
-use Rattle.git_tree.specs.declared.kinds.FileKind.{FileKind}
-use Rattle.git_tree.specs.declared.kinds.FileKind.TheVariants as kind
-use Rattle.git_tree.specs.declared.leaf.GitLeaf.{GitLeaf}
+use Rattle.git_worktree.specs.declared.kinds.Keeps.{Keeps}
+use Rattle.git_worktree.specs.declared.kinds.FileKind.{FileKind}
+use Rattle.git_worktree.specs.declared.kinds.FileKind.TheVariants as kind
+use Rattle.git_worktree.specs.declared.leaf.GitLeaf.{GitLeaf}
 
 abbrev pub kind_of : Keeps → Mark → FileKind
 kind_of keeps mark.Plain = kind.File

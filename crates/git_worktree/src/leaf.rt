@@ -1,7 +1,7 @@
 ghost use Rattle.std.specs.Prelude.{◌≡◌, ◌++◌, [], OnOk, IfErr, None};
 ghost use Rattle.std.specs.IoError.{error_kind};
 ghost use Rattle.std.specs.declared.io.ErrorKind.TheVariants.{OutOfMemory};
-ghost use Rattle.git_tree.specs.Kinds.{HoldsSame};
+ghost use Rattle.git_worktree.specs.Kinds.{HoldsSame};
 ghost use Rattle.edge_kit.specs.Faults.{Rose};
 ghost use Rattle.edge_kit.specs.declared.leaf_state.LeafState.TheVariants.{Fresh};
 
