@@ -1,6 +1,7 @@
 //! Deltas: the content of an object as copies of its base's bytes and inserted ones (gitformat-pack(5)).
 ghost use Rattle.std.specs.Prelude.{◌≡◌, ◌≤◌, ◌<◌, ◌+◌, ◌/◌, ◌%◌, IfOk, IfSome, OnOk, ℕ, List, [], length, vec_len};
 ghost use Rattle.std.specs.Prelude.{take, drop, ◌++◌};
+ghost use Rattle.git_objects.specs.Numbers.{HasNumber};
 ghost use Rattle.git_objects.specs.Delta.{HasByte, HasOffset, HasLength, Instruction, Copy};
 ghost use Rattle.git_objects.specs.Delta.{HasInstruction, Adds, Makes, IsDelta};
 
