@@ -9,11 +9,11 @@ use Rattle.git_objects.specs.Delta.{Makes, IsDelta}
 makes_behind :
     (base : List ℕ) (n : ℕ) (bytes header before after : List ℕ) → Makes base n bytes (header ++ before) after
     → (content : List ℕ) × (after ≡ header ++ content) × Makes base n bytes before content
-makes_behind base zero bytes header before after (e, f) = (before, f, e, refl)
+makes_behind base zero bytes header before after (e, f) = (before, f, (e, refl))
 makes_behind base (suc n) bytes header before after (i, mid, piece, has, adds, more) =
     let here = subst (λ (x : List ℕ). Makes base n mid x after) (append_assoc header before piece) more in
     let made = makes_behind base n mid header (before ++ piece) after here in
-    (made.0, made.1, i, mid, piece, has, adds, made.2)
+    (made.0, made.1, (i, mid, piece, has, adds, made.2))
 
 pub delta_alone :
     (base delta mid rest content : List ℕ) (size n : ℕ) → HasNumber delta (length base) mid → HasNumber mid size rest

@@ -113,11 +113,7 @@ fn add_all(
 }
 
 /// The size of what a delta makes of its base, up to the limit, and the delta's instructions.
-fn read_sizes<'a>(
-    base: &[u8],
-    delta: &'a [u8],
-    limit: u64,
-) -> Result<(u64, &'a [u8]), ObjectsFault>
+fn read_sizes<'a>(base: &[u8], delta: &'a [u8], limit: u64) -> Result<(u64, &'a [u8]), ObjectsFault>
     ensures sizes { IfOk result (λ r. (mid : List ℕ)
         × HasNumber delta.now (length base.now) mid × HasNumber mid r.0 r.1.now) }
     ensures within { IfOk result (λ r. r.0 ≤ limit) }
