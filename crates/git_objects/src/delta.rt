@@ -1,11 +1,13 @@
 //! Deltas: the content of an object as copies of its base's bytes and inserted ones (gitformat-pack(5)).
 ghost use Rattle.std.specs.Prelude.{◌≡◌, ◌≤◌, ◌<◌, ◌+◌, ◌/◌, ◌%◌, IfOk, IfSome, OnOk, ℕ, List, [], length, vec_len};
-ghost use Rattle.std.specs.Prelude.{take, drop};
+ghost use Rattle.std.specs.Prelude.{take, drop, ◌++◌};
+ghost use Rattle.git_objects.specs.Numbers.{HasNumber};
 ghost use Rattle.git_objects.specs.Delta.{HasByte, HasOffset, HasLength, Instruction, Copy};
 ghost use Rattle.git_objects.specs.Delta.{HasInstruction, Adds, Makes, IsDelta};
 
 use crate::fault::ObjectsFault;
 use crate::number::read_number;
+use crate::object::{StoredKind, header_of};
 use std::alloc::Global;
 
 /// A byte of a number and what is behind it. A byte that isn't there counts as zero.
@@ -110,15 +112,11 @@ fn add_all(
     Ok(())
 }
 
-/// The content that a delta makes of its base. One that is longer than the limit isn't made.
-pub fn apply_delta(
-    alloc: Global,
-    base: &[u8],
-    delta: &[u8],
-    limit: u64,
-) -> Result<Vec<u8>, ObjectsFault>
-    ensures content { IfOk result (λ content. IsDelta base.now delta.now content.items) }
-    ensures within { IfOk result (λ content. vec_len content ≤ limit) }
+/// The size of what a delta makes of its base, up to the limit, and the delta's instructions.
+fn read_sizes<'a>(base: &[u8], delta: &'a [u8], limit: u64) -> Result<(u64, &'a [u8]), ObjectsFault>
+    ensures sizes { IfOk result (λ r. (mid : List ℕ)
+        × HasNumber delta.now (length base.now) mid × HasNumber mid r.0 r.1.now) }
+    ensures within { IfOk result (λ r. r.0 ≤ limit) }
 {
     let Some((base_size, rest)) = read_number(delta) else {
         return Err(ObjectsFault::Broken);
@@ -132,10 +130,64 @@ pub fn apply_delta(
     if size > limit {
         return Err(ObjectsFault::TooLong);
     }
-    let mut content = Vec::with_capacity(alloc, size as usize)?;
-    add_all(base, rest, &mut content, size as usize)?;
-    if content.len() as u64 != size {
+    Ok((size, rest))
+}
+
+/// Adds to what is there so many bytes that the instructions make of the base.
+fn add_sized(
+    base: &[u8],
+    delta: &[u8],
+    content: &mut Vec<u8>,
+    size: u64,
+) -> Result<(), ObjectsFault>
+    ensures made { OnOk result
+        ((n : ℕ) × Makes base.now n delta.now content.old.items content.new.items) }
+    ensures sized { OnOk result (vec_len content.new ≡ vec_len content.old + size) }
+{
+    let Some(end) = content.len().checked_add(size as usize) else {
+        return Err(ObjectsFault::Broken);
+    };
+    add_all(base, delta, content, end)?;
+    if content.len() != end {
         return Err(ObjectsFault::Broken);
     }
+    Ok(())
+}
+
+/// The content that a delta makes of its base. One that is longer than the limit isn't made.
+pub fn apply_delta(
+    alloc: Global,
+    base: &[u8],
+    delta: &[u8],
+    limit: u64,
+) -> Result<Vec<u8>, ObjectsFault>
+    ensures content { IfOk result (λ content. IsDelta base.now delta.now content.items) }
+    ensures within { IfOk result (λ content. vec_len content ≤ limit) }
+{
+    let (size, rest) = read_sizes(base, delta, limit)?;
+    let mut content = Vec::with_capacity(alloc, size as usize)?;
+    add_sized(base, rest, &mut content, size)?;
     Ok(content)
+}
+
+/// The stored form of the object of this kind that a delta makes of its base: a header, and the content made behind it.
+/// One that is longer than the limit isn't made.
+pub fn apply_stored(
+    alloc: Global,
+    kind: StoredKind,
+    base: &[u8],
+    delta: &[u8],
+    limit: u64,
+) -> Result<Vec<u8>, ObjectsFault>
+    ensures content { IfOk result (λ stored. (header content : List ℕ)
+        × (stored.items ≡ header ++ content) × IsDelta base.now delta.now content) }
+    ensures within { IfOk result (λ stored. vec_len stored ≤ limit) }
+{
+    let (size, rest) = read_sizes(base, delta, limit)?;
+    let mut stored = header_of(alloc, kind, size, size as usize)?;
+    if stored.len() as u64 > limit - size {
+        return Err(ObjectsFault::TooLong);
+    }
+    add_sized(base, rest, &mut stored, size)?;
+    Ok(stored)
 }

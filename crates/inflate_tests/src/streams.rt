@@ -1,5 +1,5 @@
 use crate::vectors::{BAD, COUNTS, GOOD};
-use inflate::{InflateFault, inflate};
+use inflate::{InflateFault, inflate, inflate_behind};
 use std::alloc::{AllocError, Global};
 use std::test::Fail;
 
@@ -19,6 +19,28 @@ fn told(alloc: Global, stored: &[u8], limit: usize) -> Result<String, Fail> {
     }
 }
 
+/// What is in front of a content.
+const HEADER: &[u8] = b"blob 5\0";
+
+/// The same for a stream that is inflated behind a header, without the header if that is kept.
+fn told_behind(alloc: Global, stored: &[u8], limit: usize) -> Result<String, Fail> {
+    let mut out = Vec::new(alloc);
+    out.extend_from_slice(HEADER)?;
+    match inflate_behind(alloc, stored, &mut out, limit) {
+        Ok(used) => {
+            let content = out.as_slice().strip_prefix(HEADER).unwrap_or(b"no header");
+            let content = hex_of(content, alloc)?;
+            Ok(format!(in alloc; "{content}|{used}")?)
+        }
+        Err(fault) => Ok(format!(in alloc; "{fault:?}")?),
+    }
+}
+
+/// How many bytes the content has whose row tells it in hex.
+fn size_of(want: &str) -> usize {
+    want.find('|').unwrap_or(0) / 2
+}
+
 #[test]
 fn streams_of_zlib_are_inflated(rt: HostRuntime) -> Result<(), Fail> {
     let alloc = rt.alloc();
@@ -29,6 +51,8 @@ fn streams_of_zlib_are_inflated(rt: HostRuntime) -> Result<(), Fail> {
         };
         let stored = hex::decode(alloc, stored.as_bytes())?;
         let came = told(alloc, stored.as_slice(), 1000)?;
+        assert_eq!(rt; came.as_str(), want);
+        let came = told_behind(alloc, stored.as_slice(), size_of(want))?;
         assert_eq!(rt; came.as_str(), want);
         count = count.saturating_add(1);
     }
@@ -47,6 +71,8 @@ fn streams_that_zlib_refuses_are_refused(rt: HostRuntime) -> Result<(), Fail> {
         let bytes = hex::decode(alloc, stored.as_bytes())?;
         let came = told(alloc, bytes.as_slice(), 1_000_000)?;
         assert_eq!(rt; came.as_str(), want, "{stored}");
+        let came = told_behind(alloc, bytes.as_slice(), 100_000)?;
+        assert_eq!(rt; came.as_str(), want, "{stored}");
         count = count.saturating_add(1);
     }
     assert_eq!(rt; count, COUNTS.1);
@@ -60,5 +86,9 @@ fn limit_is_kept(rt: HostRuntime) -> Result<(), Fail> {
     let mut out = Vec::new(alloc);
     let fault = Err(InflateFault::TooLong);
     assert_eq!(rt; inflate(alloc, stored.as_slice(), &mut out, 11), fault);
+    assert_eq!(rt;
+        inflate_behind(alloc, stored.as_slice(), &mut out, 11),
+        fault
+    );
     Ok(())
 }
