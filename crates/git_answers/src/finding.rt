@@ -70,20 +70,18 @@ const ASKED: [&str; 14] = [
     "--glob=refs/replace/",
 ];
 
-/// The first line that git wrote on standard error, without its first word, or these words if it wrote none.
+/// What git wrote on standard error, without its first word, or these words if it wrote nothing. Its advice may take
+/// several lines.
 fn said_by(alloc: Global, answer: &Answer, otherwise: &str) -> Result<String, AllocError> {
     let said = match str::from_utf8(answer.said.as_slice()) {
         Ok(said) => said,
         Err(_) => "",
     };
-    let line = match said.split_once('\n') {
-        Some((line, _)) => line,
-        None => said,
-    };
-    match line.strip_prefix("fatal: ") {
+    let lines = said.trim_end_matches('\n');
+    match lines.strip_prefix("fatal: ") {
         Some(words) => String::from_str(alloc, words),
-        None if line.is_empty() => String::from_str(alloc, otherwise),
-        None => String::from_str(alloc, line),
+        None if lines.is_empty() => String::from_str(alloc, otherwise),
+        None => String::from_str(alloc, lines),
     }
 }
 

@@ -2,7 +2,7 @@
 use crate::engine_call::{CheckedOut, check_out_of, has_files};
 use crate::journal::journal_file;
 use crate::submodules::make_submodules;
-use crate::target::refused_target;
+use crate::target::{make_target, refused_target};
 use byte_path::Bytes;
 use exit_status::ExitStatus;
 use git_edge::{GitFault, GitRepo, IndexLock};
@@ -82,6 +82,7 @@ fn check_out_all<H: Threads + Wait + Sync>(
     } = beside;
     let left = check_out_of(rt, threads, asked, repo)?;
     if has_files(left.status) {
+        make_target(rt, asked.tree);
         make_submodules(rt, asked.tree, submodules.as_slice())?;
     }
     let mut status = left.status.number();

@@ -1,9 +1,9 @@
-//! The place of the folder that a checkout fills, looked at before anything is done.
+//! The place of the folder that a checkout fills, looked at before anything is done, and the folder itself.
 use exit_status::ExitStatus;
 use reports::ReportForm;
 use siuwbren_index::refuse_wish;
 use std::alloc::AllocError;
-use std::fs::{metadata, symlink_metadata};
+use std::fs::{create_dir_all, metadata, symlink_metadata};
 use std::io;
 use std::io::{Error, ErrorKind};
 
@@ -49,4 +49,11 @@ pub fn refused_target(
     };
     let words = format!(in rt.alloc(); "TREE can't be a folder: {path}: {error}")?;
     Ok(Some(refuse_wish(rt, form, words.as_str())))
+}
+
+/// Makes the folder if it isn't there: a checkout of no files has made none. Standard error says why it can't be made.
+pub fn make_target(rt: HostRuntime, tree: &str) {
+    if let Err(error) = create_dir_all(&rt, tree) {
+        let _ = eprintln!(rt; "warning: the folder {tree}: {error}");
+    }
 }
