@@ -99,7 +99,7 @@ impl ObjectReader {
         taken
     }
 
-    /// An object from git where the files are broken. One of which they have something isn't absent.
+    /// An object from git where the files are broken or can't be read. One of which they may have something isn't absent.
     fn from_git_if_there(&mut self, git: &Git, wanted: Wanted) -> Result<Option<Vec<u8>>, TakeFault>
         ensures takes { Takes Untold wanted.limit result }
         ensures there { IfOk result (λ stored. stored ≢ None) }
@@ -125,10 +125,11 @@ impl ObjectReader {
             Ok(Some(stored)) => Ok(Some(stored)),
             Err(ObjectsFault::TooLong) => Err(TakeFault::TooLong),
             Err(ObjectsFault::NoMemory) => Err(TakeFault::NoMemory),
-            Err(ObjectsFault::Broken) => self.from_git_if_there(git, wanted),
-            Ok(None) | Err(ObjectsFault::Elsewhere) | Err(ObjectsFault::Unread) => {
-                self.from_git(git, wanted)
+            // what may not be read may be there
+            Err(ObjectsFault::Broken) | Err(ObjectsFault::Unread) => {
+                self.from_git_if_there(git, wanted)
             }
+            Ok(None) | Err(ObjectsFault::Elsewhere) => self.from_git(git, wanted),
         }
     }
 }

@@ -5,7 +5,6 @@ use crate::fault::ObjectsFault;
 use crate::pack::deflated;
 use byte_path::ObjectId;
 use edge_adapters::read_whole;
-use edge_kit::TakeFault;
 use inflate::inflate;
 use std::alloc::{AllocError, Global};
 
@@ -28,12 +27,8 @@ pub fn loose_object(
 {
     let alloc = rt.alloc();
     let path = loose_path(alloc, folder, name)?;
-    let file = match read_whole(rt, alloc, path.as_str(), deflated(limit)) {
-        Ok(Some(file)) => file,
-        Ok(None) => return Ok(None),
-        // what may not be read may be there
-        Err(TakeFault::Failed) => return Err(ObjectsFault::Broken),
-        Err(fault) => return Err(fault.into()),
+    let Some(file) = read_whole(rt, alloc, path.as_str(), deflated(limit))? else {
+        return Ok(None);
     };
     let mut stored = Vec::new(alloc);
     let used = inflate(alloc, file.as_slice(), &mut stored, limit as usize)?;
